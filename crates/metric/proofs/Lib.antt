@@ -1,0 +1,3 @@
+mod Ranges
+mod Steady
+mod Squared

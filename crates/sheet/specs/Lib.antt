@@ -1,0 +1,4 @@
+pub mod Pixels
+pub mod Keys
+pub mod Images
+pub mod Refusals

@@ -1,0 +1,4 @@
+// A sheet of pixels: its size, its places, the keys that its pixels hold, and how calls refuse.
+pub mod key;
+pub mod refusal;
+pub mod size;
