@@ -1,0 +1,4 @@
+pub mod Least
+pub mod Offsets
+pub mod Rings
+pub mod Rounds

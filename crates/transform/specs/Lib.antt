@@ -1,0 +1,3 @@
+pub mod Settled
+pub mod Erosion
+pub mod Parallel
