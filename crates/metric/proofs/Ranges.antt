@@ -1,12 +1,11 @@
--- Numbers by level and by offset, inside and outside their ranges, and the weight of a step.
+-- Numbers by level and by offset, inside and outside their ranges.
 use mathlib.Core.Path.{_≡_}
-use mathlib.Core.Bool.{Bool, true, false, cond, _&&_}
+use mathlib.Core.Bool.{cond, _&&_}
 use mathlib.Core.Logic.{_⊎_}
-use Prim.Native.Nat.{ℕ, suc, _+_, _-_, _*_, _≤_, _<_, min, max}
+use Prim.Native.Nat.{ℕ, _≤_, max}
 use native.Mathlib.Omega.{arith}
-use lib.Dec.{eqb, leb}
+use lib.Dec.{leb}
 use Rattle.std.proofs.shelf.Ways.{tells}
-use Rattle.sheet.specs.Pixels.{weight-of}
 use Rattle.metric.specs.Model.{at-level, at-offset}
 
 pub level-in : (i v : ℕ) → 1 ≤ i → i ≤ 1024 → at-level i v ≡ v
@@ -26,9 +25,3 @@ offset-out x y v h = grind (arith, tells)
 
 pub offset-bound : (x y v b : ℕ) → (x ≤ 1023 → y ≤ 1023 → v ≤ b) → at-offset x y v ≤ b
 offset-bound x y v b h = grind (arith, tells)
-
-pub weight-straight : (s d x y : ℕ) → x + y ≡ 1 → weight-of s d x y ≡ s
-weight-straight s d x y h = grind (arith, tells)
-
-pub weight-diagonal : (s d x y : ℕ) → x + y ≡ 2 → weight-of s d x y ≡ d
-weight-diagonal s d x y h = grind (arith, tells)

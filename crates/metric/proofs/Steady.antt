@@ -10,10 +10,11 @@ use lib.Dec.{eqb, leb}
 use Rattle.std.proofs.shelf.Tests.{cases-order, cases-eq, cases-lt, eqb-true, eq-eqb}
 use Rattle.std.proofs.shelf.Ways.{tells}
 use Rattle.sheet.specs.Pixels.{apart, weight-of}
+use Rattle.sheet.proofs.Weights.{weight-straight, weight-diagonal}
 use Rattle.metric.specs.Model.{Model, at-level, at-offset}
 use Rattle.metric.specs.Laws.{Lawful, Reached, Parted, step-weight}
 use Rattle.metric.specs.Metrics.{steady-model}
-use Rattle.metric.proofs.Ranges.{level-in, level-out, level-bound, offset-in, offset-out, offset-bound, weight-straight, weight-diagonal}
+use Rattle.metric.proofs.Ranges.{level-in, level-out, level-bound, offset-in, offset-out, offset-bound}
 
 -- a product with one more, and with at most as much
 mul-next : (a m n : ℕ) → m ≤ n + 1 → a * m ≤ a * n + a

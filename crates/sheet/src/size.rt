@@ -15,9 +15,9 @@ const LONGEST: usize = 1024;
 pub struct Size {
     pub width: usize,
     pub height: usize,
-    ghost some_columns: { 1 ≤ width },
+    ghost columns: { 1 ≤ width },
     ghost wide: { width ≤ 1024 },
-    ghost some_rows: { 1 ≤ height },
+    ghost rows: { 1 ≤ height },
     ghost tall: { height ≤ 1024 },
 }
 

@@ -1,0 +1,34 @@
+-- What a round and a settling do to the memory that is lent to them.
+use mathlib.Core.Path.{_≡_}
+use mathlib.Core.Bool.{Bool, true, false}
+use mathlib.Core.List.{List}
+use Prim.Native.Nat.{ℕ, _≤_, _<_, max}
+use Rattle.sheet.specs.declared.size.Size.{Size}
+use Rattle.sheet.specs.Images.{Image, image-of}
+use Rattle.metric.specs.Model.{Model}
+use Rattle.transform.specs.Settled.{settled}
+use Rattle.transform.specs.Erosion.{eroded, First-idle}
+use Rattle.erosion.specs.Memory.{Shows, past}
+
+-- the image that a round makes of keys
+abbrev pub round-of : Size → ℕ → ℕ → List ℕ → Image
+round-of size straight diagonal keys = eroded (size .height) (size .width) straight diagonal (image-of (size .width) keys)
+
+-- a round from keys into spare, which becomes spare′, and whether it altered anything
+pub record Rounded (size : Size) (straight diagonal : ℕ) (keys spare spare′ : List ℕ) (altered : Bool) : Type 0 where
+  pub image : Shows size spare′ (round-of size straight diagonal keys)
+  pub rest : past size spare′ ≡ past size spare
+  pub idle : altered ≡ false → Shows size spare′ (image-of (size .width) keys)
+  pub busy : altered ≡ true → Shows size spare′ (image-of (size .width) keys) → ⊥
+
+-- a settling of a picture: keys and spare, which become keys′ and spare′, both hold the settled image
+pub record Settles (m : Model) (size : Size) (picture keys keys′ spare spare′ : List ℕ) : Type 0 where
+  pub image : Shows size keys′ (settled m (size .height) (size .width) (image-of (size .width) picture))
+  pub copy : Shows size spare′ (settled m (size .height) (size .width) (image-of (size .width) picture))
+  pub rest : past size keys′ ≡ past size keys
+  pub spare-rest : past size spare′ ≡ past size spare
+
+-- the count of a parallel settling: its first idle round, at most as many as the longer side has pixels
+pub record Counts-rounds (m : Model) (size : Size) (picture : List ℕ) (count : ℕ) : Type 0 where
+  pub first : First-idle m (size .height) (size .width) (image-of (size .width) picture) count
+  pub soon : count ≤ max (size .width) (size .height)

@@ -1,0 +1,4 @@
+// Orders of work that bring a picture's keys to the settled image, in memory that the caller lends.
+mod memory;
+pub mod parallel;
+pub mod start;
