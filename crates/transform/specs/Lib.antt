@@ -1,3 +1,4 @@
 pub mod Settled
 pub mod Erosion
 pub mod Parallel
+pub mod Examples

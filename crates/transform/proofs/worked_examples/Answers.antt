@@ -1,0 +1,49 @@
+use mathlib.Core.Path.{_≡_, refl, sym, ap, _∙_}
+use mathlib.Core.List.{[], _∷_}
+use mathlib.Core.Logic.{⊎-elim}
+use Prim.Native.Nat.{ℕ, _<_, min}
+use native.Mathlib.Omega.{arith}
+use borrow.Author.Count.{below-none, below-more}
+use Rattle.sheet.specs.Pixels.{ring}
+use Rattle.sheet.specs.Keys.{blank, key-of, reading-of}
+use Rattle.sheet.specs.Images.{Image, Same, image-of, least, least-on}
+use Rattle.metric.specs.Model.{Model}
+use Rattle.metric.specs.Metrics.{squared-euclidean}
+use Rattle.transform.specs.Settled.{air-key, settled}
+use Rattle.transform.specs.Erosion.{starting, eroded, rounds, Idle, First-idle}
+use Rattle.transform.proofs.worked_examples.Needs as need
+
+-- images agree on one row of pixels where they agree at each
+one-row : (w : ℕ) (f g : Image) → ((c : ℕ) → c < w → f 0 c ≡ g 0 c) → Same 1 w f g
+one-row w f g same r c row column =
+    let e : r ≡ 0 = omega arith in
+    (λ k. f (e k) c) ∙ same c column ∙ (λ k. g (sym e k) c)
+
+-- what holds of the first one, two and three numbers holds below 1, 2 and 3
+one : (P : ℕ → Type 0) → P 0 → (k : ℕ) → k < 1 → P k
+one P a = below-more P 0 (below-none P) a
+
+two : (P : ℕ → Type 0) → P 0 → P 1 → (k : ℕ) → k < 2 → P k
+two P a b = below-more P 1 (one P a) b
+
+three : (P : ℕ → Type 0) → P 0 → P 1 → P 2 → (k : ℕ) → k < 3 → P k
+three P a b c = below-more P 2 (two P a b) c
+
+pub returns : need.returns
+unfolding settled air-key least-on least rounds starting eroded ring
+returns c = record {
+  key-of-ten = refl;
+  key-of-one = refl;
+  far-city-block = refl;
+  far-chessboard = refl;
+  far-chamfer = refl;
+  far-squared-euclidean = refl;
+  straight-three = refl;
+  diagonal-three = refl;
+  lone-carbon = λ m law. refl;
+  lone-carbon-rounds = λ m law. record { before = 0; next = refl; idle = one-row 1 _ _ (one _ refl); busy = λ j p. absurd (omega arith) };
+  lone-air = λ m law. ap (λ (d : ℕ). reading-of (min blank (min blank (key-of d 0)))) (law .far-zero);
+  first-of-equals = refl;
+  row-of-three = refl;
+  row-of-three-rounds = record { before = 2; next = refl; idle = one-row 3 _ _ (three _ refl refl refl); busy = two _ (λ idle. let e : _≡_ {A = ℕ} 1048576 blank = idle 0 1 (omega arith) (omega arith) in omega arith) (λ idle. let e : _≡_ {A = ℕ} 4194304 blank = idle 0 2 (omega arith) (omega arith) in omega arith) };
+}
