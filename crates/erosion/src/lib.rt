@@ -2,3 +2,5 @@
 mod memory;
 pub mod parallel;
 pub mod start;
+#[cfg(test)]
+mod tests;

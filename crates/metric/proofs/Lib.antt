@@ -1,3 +1,3 @@
-mod Ranges
+mod Bounds
 mod Steady
 mod Squared

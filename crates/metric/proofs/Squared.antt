@@ -12,7 +12,7 @@ use Rattle.sheet.proofs.Weights.{weight-straight, weight-diagonal}
 use Rattle.metric.specs.Model.{Model, at-level, at-offset}
 use Rattle.metric.specs.Laws.{Lawful, Reached, Constant}
 use Rattle.metric.specs.Metrics.{squared-euclidean}
-use Rattle.metric.proofs.Ranges.{level-in, level-out, level-bound, offset-in, offset-out, offset-bound}
+use Rattle.metric.proofs.Bounds.{level-in, level-out, level-bound, offset-in, offset-out, offset-bound}
 
 square-le : (x n : ℕ) → x ≤ n → x * x ≤ n * n
 square-le x n h = mul-le-mul h h

@@ -14,7 +14,7 @@ use Rattle.sheet.proofs.Weights.{weight-straight, weight-diagonal}
 use Rattle.metric.specs.Model.{Model, at-level, at-offset}
 use Rattle.metric.specs.Laws.{Lawful, Reached, Parted, step-weight}
 use Rattle.metric.specs.Metrics.{steady-model}
-use Rattle.metric.proofs.Ranges.{level-in, level-out, level-bound, offset-in, offset-out, offset-bound}
+use Rattle.metric.proofs.Bounds.{level-in, level-out, level-bound, offset-in, offset-out, offset-bound}
 
 -- a product with one more, and with at most as much
 mul-next : (a m n : ℕ) → m ≤ n + 1 → a * m ≤ a * n + a

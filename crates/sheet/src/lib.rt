@@ -2,3 +2,5 @@
 pub mod key;
 pub mod refusal;
 pub mod size;
+#[cfg(test)]
+mod tests;

@@ -13,5 +13,4 @@ pub fn parallel_settles()
 // The worked examples hold.
 pub fn worked_examples()
     ensures { λ _. ⌜ Worked ⌝ }
-{
-}
+{}
