@@ -1,3 +1,4 @@
 mod Rows
 mod Window
 mod Settling
+mod Walks

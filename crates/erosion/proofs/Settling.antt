@@ -28,7 +28,7 @@ settled-of m size picture = settled m (size .height) (size .width) (image-of (si
 -- keys hold the image after i rounds, none of which was idle
 pub record Done (m : Model) (size : Size) (picture keys : List ℕ) (i : ℕ) : Type 0 where
   pub image : Shows size keys (rounds-of m size picture i)
-  pub busy : (j : ℕ) → j < i → Idle m (size .height) (size .width) (image-of (size .width) picture) j → ⊥
+  pub busy : (j : ℕ) → j < i → Idle (size .height) (size .width) (rounds m (size .height) (size .width) (image-of (size .width) picture)) j → ⊥
 
 -- round n was the first idle one: the memory before it and the memory after it hold the settled image
 pub record Ended (m : Model) (size : Size) (picture before after : List ℕ) (n : ℕ) : Type 0 where
@@ -74,7 +74,7 @@ module _ {m : Model} (law : Lawful m) {size : Size} {picture keys : List ℕ} {i
 
     pub done-last : altered ≡ false → Ended m size picture keys after (i + 1)
     done-last idle =
-        let first : First-idle m (size .height) (size .width) (image-of (size .width) picture) (i + 1) =
+        let first : First-idle (size .height) (size .width) (rounds m (size .height) (size .width) (image-of (size .width) picture)) (i + 1) =
         record {
           before = i;
           next = omega arith;

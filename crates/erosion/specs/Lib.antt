@@ -1,3 +1,4 @@
 pub mod Memory
-pub mod Window
 pub mod Rounds
+pub mod Window
+pub mod Walks

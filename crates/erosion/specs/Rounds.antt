@@ -3,11 +3,13 @@ use mathlib.Core.Path.{_≡_}
 use mathlib.Core.Bool.{Bool, true, false}
 use mathlib.Core.List.{List}
 use Prim.Native.Nat.{ℕ, _≤_, _<_, max}
+use Rattle.sheet.specs.declared.direction.Direction.{Direction}
 use Rattle.sheet.specs.declared.size.Size.{Size}
 use Rattle.sheet.specs.Images.{Image, image-of}
 use Rattle.metric.specs.Model.{Model}
 use Rattle.transform.specs.Settled.{settled}
-use Rattle.transform.specs.Erosion.{eroded, First-idle}
+use Rattle.transform.specs.Erosion.{eroded, rounds, First-idle}
+use Rattle.transform.specs.Directional.{swept}
 use Rattle.erosion.specs.Memory.{Shows, past}
 
 -- the image that a round makes of keys
@@ -21,6 +23,17 @@ pub record Rounded (size : Size) (straight diagonal : ℕ) (keys spare spare′ 
   pub idle : altered ≡ false → Shows size spare′ (image-of (size .width) keys)
   pub busy : altered ≡ true → Shows size spare′ (image-of (size .width) keys) → ⊥
 
+-- the image that a directional round makes of keys
+abbrev pub sweep-of : Size → Direction → ℕ → List ℕ → Image
+sweep-of size direction straight keys = swept direction (size .height) (size .width) straight (image-of (size .width) keys)
+
+-- a directional round in keys, which become keys′, and whether it altered anything
+pub record Swept (size : Size) (direction : Direction) (straight : ℕ) (keys keys′ : List ℕ) (altered : Bool) : Type 0 where
+  pub image : Shows size keys′ (sweep-of size direction straight keys)
+  pub rest : past size keys′ ≡ past size keys
+  pub idle : altered ≡ false → Shows size keys′ (image-of (size .width) keys)
+  pub busy : altered ≡ true → Shows size keys′ (image-of (size .width) keys) → ⊥
+
 -- a settling of a picture: keys and spare, which become keys′ and spare′, both hold the settled image
 pub record Settles (m : Model) (size : Size) (picture keys keys′ spare spare′ : List ℕ) : Type 0 where
   pub image : Shows size keys′ (settled m (size .height) (size .width) (image-of (size .width) picture))
@@ -30,5 +43,5 @@ pub record Settles (m : Model) (size : Size) (picture keys keys′ spare spare�
 
 -- the count of a parallel settling: its first idle round, at most as many as the longer side has pixels
 pub record Counts-rounds (m : Model) (size : Size) (picture : List ℕ) (count : ℕ) : Type 0 where
-  pub first : First-idle m (size .height) (size .width) (image-of (size .width) picture) count
+  pub first : First-idle (size .height) (size .width) (rounds m (size .height) (size .width) (image-of (size .width) picture)) count
   pub soon : count ≤ max (size .width) (size .height)

@@ -1,4 +1,5 @@
 // Orders of work that bring a picture's keys to the settled image, in memory that the caller lends.
+pub mod directional;
 mod memory;
 pub mod parallel;
 pub mod start;

@@ -10,6 +10,8 @@ pub enum Refusal {
     ShortMemory = 2,
     // A row, a column or a place lies off the sheet.
     OffSheet = 4,
+    // The order of work does not admit the metric.
+    NotAdmitted = 5,
 }
 
 impl Refusal {

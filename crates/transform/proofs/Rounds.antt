@@ -117,7 +117,7 @@ module _ (m : Model) (h w : ℕ) (picture : Image) where
         one u false = law .weights-rise j (omega arith) (omega arith) .0
 
     -- after an idle round no later round lowers a key: its weights are no less
-    holds-still : (i : ℕ) → i < 1024 → Idle m h w picture i → (j r c : ℕ) → i ≤ j → j ≤ 1024 → r < h → c < w → rounds m h w picture i r c ≤ rounds m h w picture j r c
+    holds-still : (i : ℕ) → i < 1024 → Idle h w (rounds m h w picture) i → (j r c : ℕ) → i ≤ j → j ≤ 1024 → r < h → c < w → rounds m h w picture i r c ≤ rounds m h w picture j r c
     unfolding rounds
     holds-still i top idle zero r c le _ row column =
         let e : i ≡ zero = omega arith in
@@ -149,12 +149,12 @@ module _ (m : Model) (h w : ℕ) (picture : Image) where
         (λ (p : suc j ≤ i). let e : suc j ≡ i = omega arith in subst (λ (k : ℕ). rounds m h w picture (suc j) r c ≤ rounds m h w picture k r c) e (le-refl _))
         (cases-lt i (suc j))
 
-    stays-idle : (i j : ℕ) → i ≤ j → j < 1024 → Idle m h w picture i → Idle m h w picture j
+    stays-idle : (i j : ℕ) → i ≤ j → j < 1024 → Idle h w (rounds m h w picture) i → Idle h w (rounds m h w picture) j
     stays-idle i j le top idle r c row column =
         le-antisymm (rounds-fall j r c)
         (le-trans (fall-from i j r c le) (holds-still i (omega arith) idle (suc j) r c (omega arith) (omega arith) row column))
 
-    idle-settled : (i : ℕ) → i < 1024 → Idle m h w picture i → Same h w (rounds m h w picture i) (settled m h w picture)
+    idle-settled : (i : ℕ) → i < 1024 → Idle h w (rounds m h w picture) i → Same h w (rounds m h w picture i) (settled m h w picture)
     idle-settled i top idle r c row column =
         let whole : ringed m h w picture 1024 r c ≡ settled m h w picture r c = ringed-all m h w picture 1024 r c (omega arith) row column in
         let low = holds-still i top idle 1024 r c (omega arith) (omega arith) row column in
@@ -164,12 +164,12 @@ module _ (m : Model) (h w : ℕ) (picture : Image) where
         omega arith
 
     -- the round after the rings have taken in the whole sheet alters nothing
-    pub idle-soon : (i : ℕ) → i < 1024 → max w h ≤ suc i → Idle m h w picture i
+    pub idle-soon : (i : ℕ) → i < 1024 → max w h ≤ suc i → Idle h w (rounds m h w picture) i
     idle-soon i top all r c row column =
         rounds-ringed (suc i) top r c row column ∙ ringed-all m h w picture (suc i) r c (omega arith) row column ∙ sym (ringed-all m h w picture i r c all row column) ∙ sym (rounds-ringed i (omega arith) r c row column)
 
     -- as long as no round was idle, fewer rounds were made than the longer side has pixels
-    pub busy-soon : (i : ℕ) → 1 ≤ w → ((j : ℕ) → j < i → Idle m h w picture j → ⊥) → i < max w h
+    pub busy-soon : (i : ℕ) → 1 ≤ w → ((j : ℕ) → j < i → Idle h w (rounds m h w picture) j → ⊥) → i < max w h
     busy-soon i some busy =
         ⊎-elim
         (λ (p : i < max w h). p)
@@ -180,7 +180,7 @@ module _ (m : Model) (h w : ℕ) (picture : Image) where
         last zero e p = omega arith
         last (suc n) e p = busy n p (idle-soon n (omega arith) (omega arith))
 
-    pub first-idle-settles : (n : ℕ) → 1 ≤ w → First-idle m h w picture n → Same h w (rounds m h w picture n) (settled m h w picture) × (n ≤ max w h)
+    pub first-idle-settles : (n : ℕ) → 1 ≤ w → First-idle h w (rounds m h w picture) n → Same h w (rounds m h w picture n) (settled m h w picture) × (n ≤ max w h)
     first-idle-settles n some first =
         let i : ℕ = first .before in
         let soon = busy-soon i some (first .busy) in
@@ -212,17 +212,17 @@ same-or-not h w f g =
     (all-below (λ r. (c : ℕ) → c < w → f r c ≡ g r c) (λ r. all-below (λ c. f r c ≡ g r c) (λ c. cases-eq (f r c) (g r c)) w) h)
 
 -- none of the first i rounds is idle, or there is a first idle one
-look : (m : Model) (h w : ℕ) (picture : Image) (i : ℕ) → ((j : ℕ) → j < i → Idle m h w picture j → ⊥) ⊎ ((n : ℕ) × First-idle m h w picture n)
+look : (m : Model) (h w : ℕ) (picture : Image) (i : ℕ) → ((j : ℕ) → j < i → Idle h w (rounds m h w picture) j → ⊥) ⊎ ((n : ℕ) × First-idle h w (rounds m h w picture) n)
 look m h w picture zero = inl (λ j p. absurd (omega arith))
 look m h w picture (suc i) =
     ⊎-elim
-    (λ (busy : (j : ℕ) → j < i → Idle m h w picture j → ⊥).
+    (λ (busy : (j : ℕ) → j < i → Idle h w (rounds m h w picture) j → ⊥).
     ⊎-elim
-    (λ (idle : Idle m h w picture i). inr (suc i, record { before = i; next = refl; idle = idle; busy = busy }))
-    (λ (not : Idle m h w picture i → ⊥).
-    inl (λ j p. ⊎-elim (λ (l : j < i). busy j l) (λ (l : i ≤ j). let e : i ≡ j = omega arith in subst (λ (k : ℕ). Idle m h w picture k → ⊥) e not) (cases-lt j i)))
+    (λ (idle : Idle h w (rounds m h w picture) i). inr (suc i, record { before = i; next = refl; idle = idle; busy = busy }))
+    (λ (not : Idle h w (rounds m h w picture) i → ⊥).
+    inl (λ j p. ⊎-elim (λ (l : j < i). busy j l) (λ (l : i ≤ j). let e : i ≡ j = omega arith in subst (λ (k : ℕ). Idle h w (rounds m h w picture) k → ⊥) e not) (cases-lt j i)))
     (same-or-not h w (rounds m h w picture (suc i)) (rounds m h w picture i)))
-    (λ (found : (n : ℕ) × First-idle m h w picture n). inr found)
+    (λ (found : (n : ℕ) × First-idle h w (rounds m h w picture) n). inr found)
     (look m h w picture i)
 
 pub look-at-rings : Rounds-look-at-rings
@@ -234,8 +234,8 @@ idle-stays m h w picture i j law tall wide le top idle = stays-idle m h w pictur
 pub first-comes : First-idle-comes
 first-comes m h w picture law _ tall some wide =
     ⊎-elim
-    (λ (busy : (j : ℕ) → j < max w h → Idle m h w picture j → ⊥). absurd (irreflexive (max w h) (busy-soon m h w picture law tall wide (max w h) some busy)))
-    (λ (found : (n : ℕ) × First-idle m h w picture n). found)
+    (λ (busy : (j : ℕ) → j < max w h → Idle h w (rounds m h w picture) j → ⊥). absurd (irreflexive (max w h) (busy-soon m h w picture law tall wide (max w h) some busy)))
+    (λ (found : (n : ℕ) × First-idle h w (rounds m h w picture) n). found)
     (look m h w picture (max w h))
   where
     irreflexive : (n : ℕ) → n < n → ⊥

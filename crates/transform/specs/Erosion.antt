@@ -25,13 +25,13 @@ unfoldable pub rounds : Model → ℕ → ℕ → Image → ℕ → Image
 rounds m h w picture zero = starting w picture
 rounds m h w picture (suc i) = eroded h w (m .straight (suc i)) (m .diagonal (suc i)) (rounds m h w picture i)
 
--- the round after i rounds alters nothing
-abbrev pub Idle : Model → ℕ → ℕ → Image → ℕ → Type 0
-Idle m h w picture i = Same h w (rounds m h w picture (suc i)) (rounds m h w picture i)
+-- the round after i rounds of a series of images alters nothing
+abbrev pub Idle : ℕ → ℕ → (ℕ → Image) → ℕ → Type 0
+Idle h w series i = Same h w (series (suc i)) (series i)
 
--- round n is the first that alters nothing
-pub record First-idle (m : Model) (h w : ℕ) (picture : Image) (n : ℕ) : Type 0 where
+-- round n of a series is the first that alters nothing
+pub record First-idle (h w : ℕ) (series : ℕ → Image) (n : ℕ) : Type 0 where
   pub before : ℕ
   pub next : n ≡ suc before
-  pub idle : Idle m h w picture before
-  pub busy : (i : ℕ) → i < before → Idle m h w picture i → ⊥
+  pub idle : Idle h w series before
+  pub busy : (i : ℕ) → i < before → Idle h w series i → ⊥

@@ -30,11 +30,11 @@ pub record Worked : Type 0 where
   pub diagonal-three : squared-euclidean .diagonal 3 ≡ 10
   -- one pixel of carbon, any metric: no reading, and the first round is idle
   pub lone-carbon : (m : Model) → Lawful m → reads m 1 1 (1 ∷ []) 0 0 ≡ None
-  pub lone-carbon-rounds : (m : Model) → Lawful m → First-idle m 1 1 (image-of 1 (1 ∷ [])) 1
+  pub lone-carbon-rounds : (m : Model) → Lawful m → First-idle 1 1 (rounds m 1 1 (image-of 1 (1 ∷ []))) 1
   -- one pixel of air, any metric: distance 0, place 0
   pub lone-air : (m : Model) → Lawful m → reads m 1 1 (0 ∷ []) 0 0 ≡ Some (0, 0)
   -- air at both ends of a row of five: the middle is 4 from both by squared Euclidean distance, and names the first
   pub first-of-equals : reads squared-euclidean 1 5 (0 ∷ 1 ∷ 1 ∷ 1 ∷ 0 ∷ []) 0 2 ≡ Some (4, 0)
   -- air at the left end of a row of three: the right end reads 4 after 3 rounds, of which the third is the first idle one
   pub row-of-three : reading-of (rounds squared-euclidean 1 3 (image-of 3 (0 ∷ 1 ∷ 1 ∷ [])) 3 0 2) ≡ Some (4, 0)
-  pub row-of-three-rounds : First-idle squared-euclidean 1 3 (image-of 3 (0 ∷ 1 ∷ 1 ∷ [])) 3
+  pub row-of-three-rounds : First-idle 1 3 (rounds squared-euclidean 1 3 (image-of 3 (0 ∷ 1 ∷ 1 ∷ []))) 3

@@ -1,4 +1,6 @@
 pub mod Settled
 pub mod Erosion
 pub mod Parallel
+pub mod Directional
+pub mod Raster
 pub mod Examples

@@ -1,0 +1,24 @@
+-- The ways in which rows and columns are walked; for the inner functions only.
+use mathlib.Core.Path.{_≡_}
+use mathlib.Core.Bool.{Bool, true, false, cond}
+use Prim.Native.Nat.{ℕ, _-_, _<_}
+use Rattle.sheet.specs.declared.direction.Direction.{Direction}
+use Rattle.sheet.specs.declared.direction.Direction.the-variants.{North, South, West, East}
+
+-- the k-th of n, counted from the end where backward is true
+abbrev pub turn : Bool → ℕ → ℕ → ℕ
+turn backward n k = cond backward (n - 1 - k) k
+
+-- keys that come from the north or the west are taken in falling place, so that each is read before it is rewritten
+abbrev pub backward : Direction → Bool
+backward North = true
+backward South = false
+backward West = true
+backward East = false
+
+-- keys that come along the rows
+abbrev pub Along-rows : Direction → Type 0
+Along-rows North = ⊥
+Along-rows South = ⊥
+Along-rows West = Unit {0}
+Along-rows East = Unit {0}
