@@ -2,3 +2,5 @@ mod Rows
 mod Window
 mod Settling
 mod Walks
+mod RowPhases
+mod FourPhases

@@ -10,7 +10,7 @@ use Rattle.sheet.specs.declared.direction.Direction.{Direction}
 use Rattle.sheet.specs.declared.direction.Direction.the-variants.{North, South, West, East}
 use Rattle.sheet.specs.Keys.{blank, stepped}
 use Rattle.sheet.specs.Images.{Image}
-use Rattle.transform.specs.Directional.{neighbour-key, swept}
+use Rattle.transform.specs.Directional.{neighbour-key, swept, Along-rows}
 use Rattle.erosion.specs.Walks.{turn, backward}
 
 -- the k-th from an end has k before it
@@ -67,3 +67,12 @@ swept-in-rows West h w v f g r c row on same =
     swept-at West h w v f g r c (same r c on (omega arith)) (cond-same (ltb 0 c) _ _ blank (λ e. same r (c - 1) (omega arith) (omega arith)))
 swept-in-rows East h w v f g r c row on same =
     swept-at East h w v f g r c (same r c on (omega arith)) (cond-same (ltb (c + 1) w) _ _ blank (λ e. same r (c + 1) (ltb-true (c + 1) w e) (omega arith)))
+
+-- rows are independent of one another where keys come along them
+pub swept-along : (d : Direction) (h w v : ℕ) (f g : Image) (r : ℕ) → Along-rows d → ((c : ℕ) → c < w → f r c ≡ g r c) → (c : ℕ) → c < w → swept d h w v f r c ≡ swept d h w v g r c
+swept-along North h w v f g r along same c on = absurd along
+swept-along South h w v f g r along same c on = absurd along
+swept-along West h w v f g r along same c on =
+    swept-at West h w v f g r c (same c on) (cond-same (ltb 0 c) _ _ blank (λ e. same (c - 1) (omega arith)))
+swept-along East h w v f g r along same c on =
+    swept-at East h w v f g r c (same c on) (cond-same (ltb (c + 1) w) _ _ blank (λ e. same (c + 1) (ltb-true (c + 1) w e)))

@@ -2,14 +2,14 @@
 use mathlib.Core.Path.{_≡_}
 use mathlib.Core.Bool.{Bool, true, false}
 use mathlib.Core.List.{List}
-use Prim.Native.Nat.{ℕ, _≤_, _<_, max}
+use Prim.Native.Nat.{ℕ, _+_, _*_, _≤_, _<_, max}
 use Rattle.sheet.specs.declared.direction.Direction.{Direction}
 use Rattle.sheet.specs.declared.size.Size.{Size}
 use Rattle.sheet.specs.Images.{Image, image-of}
 use Rattle.metric.specs.Model.{Model}
 use Rattle.transform.specs.Settled.{settled}
 use Rattle.transform.specs.Erosion.{eroded, rounds, First-idle}
-use Rattle.transform.specs.Directional.{swept}
+use Rattle.transform.specs.Directional.{swept, Phases}
 use Rattle.erosion.specs.Memory.{Shows, past}
 
 -- the image that a round makes of keys
@@ -45,3 +45,8 @@ pub record Settles (m : Model) (size : Size) (picture keys keys′ spare spare�
 pub record Counts-rounds (m : Model) (size : Size) (picture : List ℕ) (count : ℕ) : Type 0 where
   pub first : First-idle (size .height) (size .width) (rounds m (size .height) (size .width) (image-of (size .width) picture)) count
   pub soon : count ≤ max (size .width) (size .height)
+
+-- the count of a directional settling: the sum over its phases, at most twice the sum of width and height
+pub record Counts-phases (m : Model) (size : Size) (picture : List ℕ) (count : ℕ) : Type 0 where
+  pub phases : Phases m (size .height) (size .width) (image-of (size .width) picture) count
+  pub soon : count ≤ 2 * (size .width + size .height)

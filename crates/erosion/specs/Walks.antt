@@ -1,7 +1,6 @@
 -- The ways in which rows and columns are walked; for the inner functions only.
-use mathlib.Core.Path.{_≡_}
 use mathlib.Core.Bool.{Bool, true, false, cond}
-use Prim.Native.Nat.{ℕ, _-_, _<_}
+use Prim.Native.Nat.{ℕ, _-_}
 use Rattle.sheet.specs.declared.direction.Direction.{Direction}
 use Rattle.sheet.specs.declared.direction.Direction.the-variants.{North, South, West, East}
 
@@ -15,10 +14,3 @@ backward North = true
 backward South = false
 backward West = true
 backward East = false
-
--- keys that come along the rows
-abbrev pub Along-rows : Direction → Type 0
-Along-rows North = ⊥
-Along-rows South = ⊥
-Along-rows West = Unit {0}
-Along-rows East = Unit {0}

@@ -1,137 +1,16 @@
-// The directional order: phases in which each pixel takes keys from one side, along rows and columns.
+// The directional order: four phases, in each of which pixels take keys from one side only.
 ghost use mathlib.Core.Path.{_≡_};
-ghost use mathlib.Core.Bool.{Bool, true, false};
-ghost use Prim.Native.Nat.{ℕ, _+_, _*_, _≤_, _<_, max};
-ghost use Rattle.sheet.specs.Images.{image-of};
-ghost use Rattle.sheet.specs.Refusals.{Answers, passed};
-ghost use Rattle.transform.specs.Directional.{neighbour-key};
-ghost use Rattle.erosion.specs.Memory.{Shows, Fits, On, past, needs-memory};
-ghost use Rattle.erosion.specs.Rounds.{Swept, sweep-of};
-ghost use Rattle.erosion.specs.Walks.{turn, backward};
-use crate::memory::key_at;
-use crate::memory::put_key;
+ghost use mathlib.Core.Bool.{not};
+ghost use Rattle.sheet.specs.Refusals.{Answers, check, passed};
+ghost use Rattle.sheet.specs.declared.refusal.Refusal.the-variants.{NotAdmitted};
+ghost use Rattle.erosion.specs.Memory.{needs-memory};
+ghost use Rattle.erosion.specs.Rounds.{Swept, Settles, Counts-phases};
+use crate::phases::run_phases;
+use crate::sweeps::sweep;
+use metric::Metric;
 use sheet::direction::Direction;
-use sheet::key;
 use sheet::refusal::Refusal;
 use sheet::size::Size;
-
-// The key of the neighbour in a direction.
-fn neighbour(size: Size, keys: &[u64], direction: Direction, row: usize, column: usize) -> u64
-    requires fits { ⌜ Fits size (now keys) ⌝ }
-    requires on { ⌜ On size row column ⌝ }
-    ensures { λ r. ⌜ r ≡ neighbour-key direction (size .height) (size .width) (image-of (size .width) (now (keys .entry))) row column ⌝ }
-{
-    match direction {
-        Direction::North => {
-            if row > 0 {
-                key_at(size, keys, row - 1, column)
-            } else {
-                key::BLANK
-            }
-        }
-        Direction::South => {
-            if row + 1 < size.height {
-                key_at(size, keys, row + 1, column)
-            } else {
-                key::BLANK
-            }
-        }
-        Direction::West => {
-            if column > 0 {
-                key_at(size, keys, row, column - 1)
-            } else {
-                key::BLANK
-            }
-        }
-        Direction::East => {
-            if column + 1 < size.width {
-                key_at(size, keys, row, column + 1)
-            } else {
-                key::BLANK
-            }
-        }
-    }
-}
-
-// Whether keys from a direction are taken in falling place.
-fn is_backward(direction: Direction) -> bool
-    ensures { λ r. ⌜ r ≡ backward direction ⌝ }
-{
-    match direction {
-        Direction::North => true,
-        Direction::South => false,
-        Direction::West => true,
-        Direction::East => false,
-    }
-}
-
-// The k-th of so many, counted from the end or from the start.
-fn turned(from_end: bool, count: usize, k: usize) -> usize
-    requires { ⌜ k < count ⌝ }
-    ensures is { λ r. ⌜ r ≡ turn «from_end» count k ⌝ }
-    ensures within { λ r. ⌜ r < count ⌝ }
-{
-    if from_end { count - 1 - k } else { k }
-}
-
-// Gives a pixel the lesser of its key and its neighbour's stepped; says whether that altered it.
-fn sweep_pixel(
-    size: Size,
-    keys: &mut [u64],
-    direction: Direction,
-    row: usize,
-    column: usize,
-    straight: u32,
-) -> bool
-    requires fits { ⌜ Fits size (now keys) ⌝ }
-    requires on { ⌜ On size row column ⌝ }
-    ensures pixel { λ _. ⌜ image-of (size .width) (now (keys .exit)) row column ≡ sweep-of size direction straight (now (keys .entry)) row column ⌝ }
-    ensures others { λ _. ⌜ ((r c : ℕ) → c < size .width → (r ≡ row → c ≡ column → ⊥) → image-of (size .width) (now (keys .exit)) r c ≡ image-of (size .width) (now (keys .entry)) r c) ⌝ }
-    ensures rest { λ _. ⌜ past size (now (keys .exit)) ≡ past size (now (keys .entry)) ⌝ }
-    ensures idle { λ r. ⌜ (r ≡ false → sweep-of size direction straight (now (keys .entry)) row column ≡ image-of (size .width) (now (keys .entry)) row column) ⌝ }
-    ensures busy { λ r. ⌜ (r ≡ true → sweep-of size direction straight (now (keys .entry)) row column ≡ image-of (size .width) (now (keys .entry)) row column → ⊥) ⌝ }
-{
-    let own = key_at(size, keys, row, column);
-    let least = own.min(key::step(neighbour(size, keys, direction, row, column), straight));
-    put_key(size, keys, row, column, least);
-    least != own
-}
-
-// A row of a directional round, in place: each pixel is rewritten before the one that reads it would be wrong. Says whether
-// anything altered.
-fn sweep_row(size: Size, keys: &mut [u64], direction: Direction, row: usize, straight: u32) -> bool
-    requires fits { ⌜ Fits size (now keys) ⌝ }
-    requires on { ⌜ row < size .height ⌝ }
-    ensures line { λ _. ⌜ ((c : ℕ) → c < size .width → image-of (size .width) (now (keys .exit)) row c ≡ sweep-of size direction straight (now (keys .entry)) row c) ⌝ }
-    ensures others { λ _. ⌜ ((r c : ℕ) → c < size .width → (r ≡ row → ⊥) → image-of (size .width) (now (keys .exit)) r c ≡ image-of (size .width) (now (keys .entry)) r c) ⌝ }
-    ensures rest { λ _. ⌜ past size (now (keys .exit)) ≡ past size (now (keys .entry)) ⌝ }
-    ensures idle { λ r. ⌜ (r ≡ false → (c : ℕ) → c < size .width → sweep-of size direction straight (now (keys .entry)) row c ≡ image-of (size .width) (now (keys .entry)) row c) ⌝ }
-    ensures busy { λ r. ⌜ (r ≡ true → ((c : ℕ) → c < size .width → sweep-of size direction straight (now (keys .entry)) row c ≡ image-of (size .width) (now (keys .entry)) row c) → ⊥) ⌝ }
-{
-    let mut altered = false;
-    for k in 0..size.width {
-        let column = turned(is_backward(direction), size.width, k);
-        if sweep_pixel(size, keys, direction, row, column, straight) {
-            altered = true;
-        }
-    }
-    altered
-}
-
-// A directional round in keys that are known to hold the sheet.
-fn sweep(size: Size, keys: &mut [u64], direction: Direction, straight: u32) -> bool
-    requires { ⌜ Fits size (now keys) ⌝ }
-    ensures { λ r. ⌜ Swept size direction straight (now (keys .entry)) (now (keys .exit)) r ⌝ }
-{
-    let mut altered = false;
-    for k in 0..size.height {
-        let row = turned(is_backward(direction), size.height, k);
-        if sweep_row(size, keys, direction, row, straight) {
-            altered = true;
-        }
-    }
-    altered
-}
 
 // A directional round, in place: each pixel gets the least of its key and the key of its neighbour in the direction, stepped
 // by the weight, both as before the round. Says whether that altered anything.
@@ -149,4 +28,28 @@ pub fn round(
 {
     size.check_memory(keys.len())?;
     Ok(sweep(size, keys, direction, straight))
+}
+
+// Settles a picture by the directional order: the keys get the settled image, and so does the spare. Gives the number of rounds
+// of the four phases together. Refuses a metric that does not split.
+pub fn settle<M: Metric>(
+    size: Size,
+    metric: &M,
+    picture: &[u8],
+    keys: &mut [u64],
+    spare: &mut [u64],
+) -> Result<u64, Refusal>
+    ensures { λ r. ⌜ Answers
+        (needs-memory size (now (picture .entry)) (needs-memory size (now (keys .entry)) (needs-memory size (now (spare .entry)) (check (not (model (now (metric .entry)) .splits)) NotAdmitted passed))))
+        ((now (keys .exit) ≡ now (keys .entry)) × (now (spare .exit) ≡ now (spare .entry)))
+        (λ count. Settles (model (now (metric .entry))) size (now (picture .entry)) (now (keys .entry)) (now (keys .exit)) (now (spare .entry)) (now (spare .exit)) × Counts-phases (model (now (metric .entry))) size (now (picture .entry)) count)
+        r ⌝ }
+{
+    size.check_memory(picture.len())?;
+    size.check_memory(keys.len())?;
+    size.check_memory(spare.len())?;
+    if !metric.splits() {
+        return Err(Refusal::NotAdmitted);
+    }
+    Ok(run_phases(size, metric, picture, keys, spare))
 }

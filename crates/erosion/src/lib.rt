@@ -2,6 +2,8 @@
 pub mod directional;
 mod memory;
 pub mod parallel;
+mod phases;
 pub mod start;
+mod sweeps;
 #[cfg(test)]
 mod tests;

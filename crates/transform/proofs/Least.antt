@@ -1,5 +1,5 @@
 -- The least on a sheet: below all that the image holds, and the greatest such number up to blank.
-use mathlib.Core.Path.{_≡_, sym, subst}
+use mathlib.Core.Path.{_≡_, refl, sym, subst}
 use mathlib.Core.Logic.{⊎-elim}
 use mathlib.Core.Bool.{cond}
 use Prim.Native.Nat.{ℕ, zero, suc, _+_, _-_, _*_, _≤_, _<_, min}
@@ -12,7 +12,7 @@ use Rattle.sheet.specs.Keys.{blank, stepped}
 use Rattle.sheet.specs.Images.{Image, Same, least, least-on}
 use Rattle.transform.specs.Erosion.{offer, eroded}
 
-least-le : (n : ℕ) (f : ℕ → ℕ) (k : ℕ) → k < n → least n f ≤ f k
+pub least-le : (n : ℕ) (f : ℕ → ℕ) (k : ℕ) → k < n → least n f ≤ f k
 unfolding least
 least-le zero f k h = absurd (omega arith)
 least-le (suc n) f k h =
@@ -21,18 +21,24 @@ least-le (suc n) f k h =
     (λ (above : n ≤ k). let e : k ≡ n = omega arith in rw e (omega arith))
     (cases-lt k n)
 
-least-blank : (n : ℕ) (f : ℕ → ℕ) → least n f ≤ blank
+pub least-blank : (n : ℕ) (f : ℕ → ℕ) → least n f ≤ blank
 unfolding least
 least-blank zero f = omega arith
 least-blank (suc n) f = let rest = least-blank n f in omega arith
 
-le-least : (n : ℕ) (f : ℕ → ℕ) (m : ℕ) → m ≤ blank → ((k : ℕ) → k < n → m ≤ f k) → m ≤ least n f
+pub le-least : (n : ℕ) (f : ℕ → ℕ) (m : ℕ) → m ≤ blank → ((k : ℕ) → k < n → m ≤ f k) → m ≤ least n f
 unfolding least
 le-least zero f m b h = b
 le-least (suc n) f m b h =
     let rest = le-least n f m b (λ k lt. h k (omega arith)) in
     let here = h n (omega arith) in
     omega arith
+
+-- the least looks at the first n alone
+pub least-same : (n : ℕ) (f g : ℕ → ℕ) → ((k : ℕ) → k < n → f k ≡ g k) → least n f ≡ least n g
+unfolding least
+least-same zero f g same = refl
+least-same (suc n) f g same = λ i. min (least-same n f g (λ k lt. same k (omega arith)) i) (same n (omega arith) i)
 
 pub least-on-le : (h w : ℕ) (f : Image) (r c : ℕ) → r < h → c < w → least-on h w f ≤ f r c
 unfolding least-on

@@ -23,6 +23,11 @@ use Rattle.transform.proofs.Rings.{Under, ringed-under, le-ringed, ringed-blan
 place-small : (h w r c : ℕ) → h ≤ 1024 → w ≤ 1024 → r < h → c < w → place-of w r c ≤ blank
 place-small h w r c tall wide row column = omega (arith, mul-add-lt r w c h row column, mul-le w h 1024 1024 wide tall)
 
+pub starting-blank : (h w : ℕ) (picture : Image) (r c : ℕ) → h ≤ 1024 → w ≤ 1024 → r < h → c < w → starting w picture r c ≤ blank
+unfolding starting
+starting-blank h w picture r c tall wide row column =
+    cond-both (eqb (picture r c) 0) _ blank (λ (x : ℕ). x ≤ blank) (λ e. place-small h w r c tall wide row column) (λ e. omega arith)
+
 module _ (m : Model) (h w : ℕ) (picture : Image) where
   rounds-fall : (i r c : ℕ) → rounds m h w picture (suc i) r c ≤ rounds m h w picture i r c
   unfolding rounds
@@ -30,9 +35,8 @@ module _ (m : Model) (h w : ℕ) (picture : Image) where
 
   module _ (law : Lawful m) (tall : h ≤ 1024) (wide : w ≤ 1024) where
     rounds-blank : (i r c : ℕ) → r < h → c < w → rounds m h w picture i r c ≤ blank
-    unfolding rounds starting
-    rounds-blank zero r c row column =
-        cond-both (eqb (picture r c) 0) _ blank (λ (x : ℕ). x ≤ blank) (λ e. place-small h w r c tall wide row column) (λ e. omega arith)
+    unfolding rounds
+    rounds-blank zero r c row column = starting-blank h w picture r c tall wide row column
     rounds-blank (suc i) r c row column = le-trans (rounds-fall i r c) (rounds-blank i r c row column)
 
     -- no air so near has a lesser key: by induction along the ways of the fourth law

@@ -36,6 +36,13 @@ line-length South h w = h
 line-length West h w = w
 line-length East h w = w
 
+-- a direction that runs along the rows
+abbrev pub Along-rows : Direction → Type 0
+Along-rows North = ⊥
+Along-rows South = ⊥
+Along-rows West = Unit {0}
+Along-rows East = Unit {0}
+
 -- two phases, one after the other, from f: each takes so many rounds up to and with its first idle one
 pub record Two-phases (m : Model) (d e : Direction) (h w : ℕ) (f : Image) (first second : ℕ) : Type 0 where
   pub first-ends : First-idle h w (sweeps m d h w f) first

@@ -3,7 +3,7 @@ use native.Mathlib.Omega.{arith}
 use Rattle.std.proofs.shelf.Ways.{tells}
 use Rattle.sheet.specs.Images.{image-of}
 use Rattle.transform.specs.Directional.{swept}
-use Rattle.erosion.proofs.directional.sweep_pixel.Needs as need
+use Rattle.erosion.proofs.sweeps.sweep_pixel.Needs as need
 
 pub returns : need.returns
 unfolding swept

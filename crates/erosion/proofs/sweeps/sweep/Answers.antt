@@ -6,8 +6,8 @@ use Rattle.transform.specs.Directional.{swept}
 use Rattle.erosion.specs.Rounds.{sweep-of}
 use Rattle.erosion.specs.Walks.{turn, backward}
 use Rattle.erosion.proofs.Walks.{turn-back, turn-more, turn-below, swept-in-rows}
-use Rattle.erosion.proofs.directional.sweep.Needs as need
-use Rattle.erosion.proofs.directional.sweep.Needs.{then-sweep-row, else-sweep-row}
+use Rattle.erosion.proofs.sweeps.sweep.Needs as need
+use Rattle.erosion.proofs.sweeps.sweep.Needs.{then-sweep-row, else-sweep-row}
 
 pub loop-k-again : need.loop-k-again
 loop-k-again c =

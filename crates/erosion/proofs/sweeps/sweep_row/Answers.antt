@@ -5,8 +5,8 @@ use Rattle.sheet.specs.Images.{Image, image-of}
 use Rattle.transform.specs.Directional.{swept}
 use Rattle.erosion.specs.Walks.{turn, backward}
 use Rattle.erosion.proofs.Walks.{turn-back, turn-more, turn-below, swept-in-row}
-use Rattle.erosion.proofs.directional.sweep_row.Needs as need
-use Rattle.erosion.proofs.directional.sweep_row.Needs.{then-sweep-pixel, else-sweep-pixel}
+use Rattle.erosion.proofs.sweeps.sweep_row.Needs as need
+use Rattle.erosion.proofs.sweeps.sweep_row.Needs.{then-sweep-pixel, else-sweep-pixel}
 
 pub loop-k-again : need.loop-k-again
 loop-k-again c =

@@ -5,7 +5,7 @@ use Rattle.sheet.specs.Images.{image-of}
 use Rattle.erosion.specs.Memory.{past}
 use Rattle.erosion.specs.Rounds.{sweep-of}
 use Rattle.erosion.specs.Walks.{turn, backward}
-use Rattle.erosion.proofs.directional.sweep_row.Given as given
+use Rattle.erosion.proofs.sweeps.sweep_row.Given as given
 
 -- columns before the k-th are rewritten, the others and all other rows are as they were
 abbrev pub Inv-loop-k : given.InvT-loop-k

@@ -5,7 +5,7 @@ use Rattle.sheet.specs.Images.{Same, image-of}
 use Rattle.erosion.specs.Memory.{past}
 use Rattle.erosion.specs.Rounds.{sweep-of}
 use Rattle.erosion.specs.Walks.{turn, backward}
-use Rattle.erosion.proofs.directional.sweep.Given as given
+use Rattle.erosion.proofs.sweeps.sweep.Given as given
 
 -- rows before the k-th are rewritten, the others are as they were
 abbrev pub Inv-loop-k : given.InvT-loop-k
