@@ -4,3 +4,4 @@ mod Settling
 mod Walks
 mod RowPhases
 mod FourPhases
+mod ScanWindow

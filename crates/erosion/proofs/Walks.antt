@@ -18,7 +18,11 @@ pub turn-back : (b : Bool) (n k j : ℕ) → k < n → j ≡ turn b n k → turn
 turn-back true n k j h e = omega arith
 turn-back false n k j h e = e
 
-turn-only : (b : Bool) (n i j : ℕ) → i < n → j < n → turn b n i ≡ turn b n j → i ≡ j
+pub turn-on : (b : Bool) (n k : ℕ) → k < n → turn b n k < n
+turn-on true n k h = omega arith
+turn-on false n k h = h
+
+pub turn-only : (b : Bool) (n i j : ℕ) → i < n → j < n → turn b n i ≡ turn b n j → i ≡ j
 turn-only true n i j p q e = omega arith
 turn-only false n i j p q e = e
 
@@ -37,7 +41,7 @@ pub turn-below : (b : Bool) (n i k : ℕ) → i < n → n ≤ k → turn b n i <
 turn-below true n i k h e = omega arith
 turn-below false n i k h e = omega arith
 
-cond-same : (b : Bool) (x y z : ℕ) → (b ≡ true → x ≡ y) → cond b x z ≡ cond b y z
+pub cond-same : (b : Bool) (x y z : ℕ) → (b ≡ true → x ≡ y) → cond b x z ≡ cond b y z
 cond-same true x y z h = h refl
 cond-same false x y z h = refl
 

@@ -40,10 +40,10 @@ upright-le h f r c q on e =
     (either-side r q e)
 
 -- a number below two stepped keys is below the lesser one stepped
-le-min : (n a b s : ℕ) → n ≤ stepped a s → n ≤ stepped b s → n ≤ stepped (min a b) s
+pub le-min : (n a b s : ℕ) → n ≤ stepped a s → n ≤ stepped b s → n ≤ stepped (min a b) s
 le-min n a b s p q = omega arith
 
-step-le : (a b s : ℕ) → a ≤ b → stepped a s ≤ stepped b s
+pub step-le : (a b s : ℕ) → a ≤ b → stepped a s ≤ stepped b s
 step-le a b s p = omega arith
 
 module _ (h w s d : ℕ) (f : Image) (r c : ℕ) (row : r < h) (column : c < w) where

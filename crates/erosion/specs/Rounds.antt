@@ -10,6 +10,9 @@ use Rattle.metric.specs.Model.{Model}
 use Rattle.transform.specs.Settled.{settled}
 use Rattle.transform.specs.Erosion.{eroded, rounds, First-idle}
 use Rattle.transform.specs.Directional.{swept, Phases}
+use Rattle.transform.specs.Raster.{rising, falling, Scan}
+use Rattle.erosion.specs.declared.raster.Sense.{Sense}
+use Rattle.erosion.specs.declared.raster.Sense.the-variants.{Rising, Falling}
 use Rattle.erosion.specs.Memory.{Shows, past}
 
 -- the image that a round makes of keys
@@ -33,6 +36,16 @@ pub record Swept (size : Size) (direction : Direction) (straight : ℕ) (keys ke
   pub rest : past size keys′ ≡ past size keys
   pub idle : altered ≡ false → Shows size keys′ (image-of (size .width) keys)
   pub busy : altered ≡ true → Shows size keys′ (image-of (size .width) keys) → ⊥
+
+-- which places come before a pixel in a scan
+abbrev pub before-in : Sense → ℕ → ℕ → Bool
+before-in Rising = rising
+before-in Falling = falling
+
+-- a scan of keys, which become keys′
+pub record Scanned (size : Size) (sense : Sense) (straight diagonal : ℕ) (keys keys′ : List ℕ) : Type 0 where
+  pub image : Scan (before-in sense) (size .height) (size .width) straight diagonal (image-of (size .width) keys) (image-of (size .width) keys′)
+  pub rest : past size keys′ ≡ past size keys
 
 -- a settling of a picture: keys and spare, which become keys′ and spare′, both hold the settled image
 pub record Settles (m : Model) (size : Size) (picture keys keys′ spare spare′ : List ℕ) : Type 0 where

@@ -2,11 +2,16 @@
 use mathlib.Core.Bool.{Bool, true, false, cond}
 use Prim.Native.Nat.{ℕ, _-_}
 use Rattle.sheet.specs.declared.direction.Direction.{Direction}
+use Rattle.sheet.specs.Images.{Image}
 use Rattle.sheet.specs.declared.direction.Direction.the-variants.{North, South, West, East}
 
 -- the k-th of n, counted from the end where backward is true
 abbrev pub turn : Bool → ℕ → ℕ → ℕ
 turn backward n k = cond backward (n - 1 - k) k
+
+-- an image walked so, along rows and columns
+abbrev pub turned-image : Bool → ℕ → ℕ → Image → Image
+turned-image backward h w f i j = f (turn backward h i) (turn backward w j)
 
 -- keys that come from the north or the west are taken in falling place, so that each is read before it is rewritten
 abbrev pub backward : Direction → Bool

@@ -3,6 +3,7 @@ pub mod directional;
 mod memory;
 pub mod parallel;
 mod phases;
+pub mod raster;
 pub mod start;
 mod sweeps;
 #[cfg(test)]

@@ -4,6 +4,7 @@ ghost use Prim.Native.Nat.{ℕ, _*_, _≤_, _<_};
 ghost use lib.ListN.{length};
 ghost use Rattle.sheet.specs.Pixels.{place-of};
 ghost use Rattle.sheet.specs.Images.{image-of};
+ghost use Rattle.erosion.specs.Walks.{turn};
 ghost use Rattle.erosion.specs.Memory.{Shows, past, Fits, On};
 use sheet::size::Size;
 
@@ -14,6 +15,15 @@ pub(crate) fn place(size: Size, row: usize, column: usize) -> usize
     ensures within { λ r. ⌜ r < size .width * size .height ⌝ }
 {
     row * size.width + column
+}
+
+// The k-th of so many, counted from the end or from the start.
+pub(crate) fn turned(from_end: bool, count: usize, k: usize) -> usize
+    requires { ⌜ k < count ⌝ }
+    ensures is { λ r. ⌜ r ≡ turn «from_end» count k ⌝ }
+    ensures within { λ r. ⌜ r < count ⌝ }
+{
+    if from_end { count - 1 - k } else { k }
 }
 
 // The key of a pixel.

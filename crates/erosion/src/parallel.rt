@@ -63,7 +63,7 @@ fn east_upright(size: Size, keys: &[u64], row: usize, column: usize) -> u64
 }
 
 // The least of a key and its neighbours' least keys stepped: one sum for the straight and one for the diagonal ones.
-fn lowest(own: u64, near: u64, across: u64, straight: u32, diagonal: u32) -> u64
+pub(crate) fn lowest(own: u64, near: u64, across: u64, straight: u32, diagonal: u32) -> u64
     ensures { λ r. ⌜ r ≡ lowest-of own near across straight diagonal ⌝ }
 {
     own.min(key::step(near, straight))

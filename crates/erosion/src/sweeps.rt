@@ -6,9 +6,10 @@ ghost use Rattle.sheet.specs.Images.{image-of};
 ghost use Rattle.transform.specs.Directional.{neighbour-key};
 ghost use Rattle.erosion.specs.Memory.{Fits, On, past};
 ghost use Rattle.erosion.specs.Rounds.{Swept, sweep-of};
-ghost use Rattle.erosion.specs.Walks.{turn, backward};
+ghost use Rattle.erosion.specs.Walks.{backward};
 use crate::memory::key_at;
 use crate::memory::put_key;
+use crate::memory::turned;
 use sheet::direction::Direction;
 use sheet::key;
 use sheet::size::Size;
@@ -61,15 +62,6 @@ fn is_backward(direction: Direction) -> bool
         Direction::West => true,
         Direction::East => false,
     }
-}
-
-// The k-th of so many, counted from the end or from the start.
-pub(crate) fn turned(from_end: bool, count: usize, k: usize) -> usize
-    requires { ⌜ k < count ⌝ }
-    ensures is { λ r. ⌜ r ≡ turn «from_end» count k ⌝ }
-    ensures within { λ r. ⌜ r < count ⌝ }
-{
-    if from_end { count - 1 - k } else { k }
 }
 
 // Gives a pixel the lesser of its key and its neighbour's stepped; says whether that altered it.

@@ -8,13 +8,13 @@ use Rattle.std.specs.declared.option.Option.the-variants.{Some, None}
 use Rattle.std.specs.declared.result.Result.{Result}
 use Rattle.std.specs.declared.result.Result.the-variants.{Ok, Err}
 use Rattle.sheet.specs.declared.refusal.Refusal.{Refusal}
-use Rattle.sheet.specs.declared.refusal.Refusal.the-variants.{BadSize, ShortMemory, OffSheet, NotAdmitted}
+use Rattle.sheet.specs.declared.refusal.Refusal.the-variants.{BadSize, ShortMemory, OutOfRange, NotAdmitted}
 
 -- the number of each refusal
 abbrev pub number-of : Refusal → ℕ
 number-of BadSize = 1
 number-of ShortMemory = 2
-number-of OffSheet = 4
+number-of OutOfRange = 4
 number-of NotAdmitted = 5
 
 -- the refusal that is due: checks are made in turn, and the first that fails gives its own

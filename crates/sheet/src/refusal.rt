@@ -8,8 +8,8 @@ pub enum Refusal {
     BadSize = 1,
     // A memory is shorter than the sheet has pixels.
     ShortMemory = 2,
-    // A row, a column or a place lies off the sheet.
-    OffSheet = 4,
+    // A row, a column or a place is not there.
+    OutOfRange = 4,
     // The order of work does not admit the metric.
     NotAdmitted = 5,
 }

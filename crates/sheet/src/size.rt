@@ -4,7 +4,7 @@ ghost use Prim.Native.Nat.{_+_, _*_, _/_, _%_, _≤_, _<_};
 ghost use lib.Dec.{eqb, leb, ltb};
 ghost use Rattle.sheet.specs.Pixels.{place-of};
 ghost use Rattle.sheet.specs.Refusals.{Answers, check, passed, bad-side};
-ghost use Rattle.sheet.specs.declared.refusal.Refusal.the-variants.{BadSize, ShortMemory, OffSheet};
+ghost use Rattle.sheet.specs.declared.refusal.Refusal.the-variants.{BadSize, ShortMemory, OutOfRange};
 use crate::refusal::Refusal;
 
 // The longest side of a sheet.
@@ -50,20 +50,20 @@ impl Size {
 
     // The place of a pixel in raster order.
     pub fn place(self, row: usize, column: usize) -> Result<usize, Refusal>
-        ensures { λ r. ⌜ Answers (check (leb (self .height) row || leb (self .width) column) OffSheet passed) (Unit {0}) (λ p. p ≡ place-of (self .width) row column) r ⌝ }
+        ensures { λ r. ⌜ Answers (check (leb (self .height) row || leb (self .width) column) OutOfRange passed) (Unit {0}) (λ p. p ≡ place-of (self .width) row column) r ⌝ }
     {
         if row >= self.height || column >= self.width {
-            return Err(Refusal::OffSheet);
+            return Err(Refusal::OutOfRange);
         }
         Ok(row * self.width + column)
     }
 
     // The row and column of a place.
     pub fn pixel(self, place: usize) -> Result<(usize, usize), Refusal>
-        ensures { λ r. ⌜ Answers (check (leb (self .width * self .height) place) OffSheet passed) (Unit {0}) (λ p. (p .0 ≡ place / self .width) × (p .1 ≡ place % self .width)) r ⌝ }
+        ensures { λ r. ⌜ Answers (check (leb (self .width * self .height) place) OutOfRange passed) (Unit {0}) (λ p. (p .0 ≡ place / self .width) × (p .1 ≡ place % self .width)) r ⌝ }
     {
         if place >= self.pixels() {
-            return Err(Refusal::OffSheet);
+            return Err(Refusal::OutOfRange);
         }
         Ok((place / self.width, place % self.width))
     }

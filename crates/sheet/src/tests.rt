@@ -20,10 +20,10 @@ fn sizes() -> Result<(), Fail> {
 fn places() -> Result<(), Fail> {
     let size = Size::new(4, 2)?;
     check_eq(size.place(1, 3), Ok(7))?;
-    check_eq(size.place(2, 0), Err(Refusal::OffSheet))?;
-    check_eq(size.place(0, 4), Err(Refusal::OffSheet))?;
+    check_eq(size.place(2, 0), Err(Refusal::OutOfRange))?;
+    check_eq(size.place(0, 4), Err(Refusal::OutOfRange))?;
     check_eq(size.pixel(7), Ok((1, 3)))?;
-    check_eq(size.pixel(8), Err(Refusal::OffSheet))?;
+    check_eq(size.pixel(8), Err(Refusal::OutOfRange))?;
     check_eq(size.check_memory(8), Ok(()))?;
     check_eq(size.check_memory(7), Err(Refusal::ShortMemory))
 }
@@ -42,5 +42,5 @@ fn keys() -> Result<(), Fail> {
 fn numbers() -> Result<(), Fail> {
     check_eq(Refusal::BadSize.number(), 1)?;
     check_eq(Refusal::ShortMemory.number(), 2)?;
-    check_eq(Refusal::OffSheet.number(), 4)
+    check_eq(Refusal::OutOfRange.number(), 4)
 }
