@@ -1,5 +1,9 @@
+use crate::directional;
 use crate::parallel;
+use crate::raster;
 use crate::start::start;
+use metric::chessboard::Chessboard;
+use metric::chessboard::ChessboardMetric;
 use metric::squared_euclidean::SquaredEuclidean;
 use metric::squared_euclidean::SquaredEuclideanMetric;
 use sheet::key;
@@ -99,4 +103,43 @@ fn short_memory() -> Result<(), Fail> {
     )?;
     check_eq(keys, [9; 4])?;
     check_eq(spare, [8; 3])
+}
+
+// A row of three by the orders that work along lines.
+#[test]
+fn along_lines() -> Result<(), Fail> {
+    let size = Size::new(3, 1)?;
+    let mut keys = [0; 3];
+    let mut spare = [0; 3];
+    check_eq(
+        directional::settle(size, &SquaredEuclidean, &[0, 1, 1], &mut keys, &mut spare)?,
+        6,
+    )?;
+    check_eq(key::reading(keys[2]), Some((4, 0)))?;
+    check_eq(
+        raster::settle(size, &Chessboard, &[0, 1, 1], &mut keys, &mut spare)?,
+        2,
+    )?;
+    check_eq(key::reading(keys[2]), Some((2, 0)))?;
+    check_eq(spare, keys)
+}
+
+#[test]
+fn not_admitted() -> Result<(), Fail> {
+    let size = Size::new(2, 2)?;
+    let mut keys = [9; 4];
+    let mut spare = [8; 4];
+    check_eq(
+        directional::settle(size, &Chessboard, &[0; 4], &mut keys, &mut spare),
+        Err(Refusal::NotAdmitted),
+    )?;
+    check_eq(
+        raster::settle(size, &SquaredEuclidean, &[0; 4], &mut keys, &mut spare),
+        Err(Refusal::NotAdmitted),
+    )?;
+    check_eq(keys, [9; 4])?;
+    check_eq(
+        directional::settle(size, &SquaredEuclidean, &[0; 4], &mut keys, &mut spare),
+        Ok(4),
+    )
 }

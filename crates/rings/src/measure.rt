@@ -2,7 +2,9 @@
 use crate::search::Formula;
 use crate::search::Pixel;
 use crate::search::nearest;
+use erosion::directional;
 use erosion::parallel;
+use erosion::raster;
 use metric::Metric;
 use metric::chamfer::Chamfer;
 use metric::chamfer::ChamferMetric;
@@ -61,6 +63,26 @@ fn deepest(keys: &[u64]) -> Option<(u64, usize)> {
     best
 }
 
+// The orders of work.
+#[derive(Clone, Copy)]
+pub enum Order {
+    Parallel,
+    Directional,
+    Raster,
+}
+
+pub const ORDERS: [Order; 3] = [Order::Parallel, Order::Directional, Order::Raster];
+
+impl Order {
+    pub fn name(self) -> &'static str {
+        match self {
+            Order::Parallel => "parallel",
+            Order::Directional => "directional",
+            Order::Raster => "raster",
+        }
+    }
+}
+
 // A picture with the memory to settle it in, as long as the sheet has pixels.
 #[derive(Drop)]
 pub struct Case {
@@ -69,16 +91,6 @@ pub struct Case {
     air: Vec<Pixel>,
     keys: Vec<u64>,
     spare: Vec<u64>,
-}
-
-// What the settling of a picture gave.
-#[derive(Clone, Copy)]
-pub struct Report {
-    pub rounds: u64,
-    // The greatest distance, with the place of the first pixel that has it.
-    pub deepest: Option<(u64, usize)>,
-    // The first place at which the search finds something else.
-    pub wrong: Option<usize>,
 }
 
 impl Case {
@@ -100,30 +112,54 @@ impl Case {
         self.air.len()
     }
 
-    fn settle<M: Metric>(&mut self, metric: &M) -> Result<u64, Refusal> {
-        parallel::settle(
+    fn settle_by<M: Metric>(&mut self, metric: &M, order: Order) -> Result<u64, Refusal> {
+        let picture = self.picture.as_slice();
+        let keys = self.keys.as_mut_slice();
+        let spare = self.spare.as_mut_slice();
+        match order {
+            Order::Parallel => parallel::settle(self.size, metric, picture, keys, spare),
+            Order::Directional => directional::settle(self.size, metric, picture, keys, spare),
+            Order::Raster => raster::settle(self.size, metric, picture, keys, spare),
+        }
+    }
+
+    // Settles the picture by a metric and an order; gives the count.
+    pub fn settle(&mut self, formula: Formula, order: Order) -> Result<u64, Refusal> {
+        match formula {
+            Formula::CityBlock => self.settle_by(&CityBlock, order),
+            Formula::Chessboard => self.settle_by(&Chessboard, order),
+            Formula::Chamfer => self.settle_by(&Chamfer, order),
+            Formula::SquaredEuclidean => self.settle_by(&SquaredEuclidean, order),
+        }
+    }
+
+    // The first place at which the search by a metric's formula finds something else than the keys say.
+    pub fn first_wrong(&self, formula: Formula) -> Option<usize> {
+        first_wrong(
             self.size,
-            metric,
-            self.picture.as_slice(),
-            self.keys.as_mut_slice(),
-            self.spare.as_mut_slice(),
+            formula,
+            self.air.as_slice(),
+            self.keys.as_slice(),
         )
     }
 
-    // Settles the picture by a metric, and compares each pixel with the search by that metric's formula.
-    pub fn measure(&mut self, formula: Formula) -> Result<Report, Refusal> {
-        let rounds = match formula {
-            Formula::CityBlock => self.settle(&CityBlock)?,
-            Formula::Chessboard => self.settle(&Chessboard)?,
-            Formula::Chamfer => self.settle(&Chamfer)?,
-            Formula::SquaredEuclidean => self.settle(&SquaredEuclidean)?,
-        };
-        let keys = self.keys.as_slice();
-        let wrong = first_wrong(self.size, formula, self.air.as_slice(), keys);
-        Ok(Report {
-            rounds,
-            deepest: deepest(keys),
-            wrong,
-        })
+    // A copy of the keys.
+    pub fn keys(&self) -> Result<Vec<u64>, AllocError> {
+        self.keys.clone()
+    }
+
+    // The first place at which the keys differ from others.
+    pub fn first_other(&self, others: &[u64]) -> Option<usize> {
+        for (place, (key, other)) in self.keys.iter().zip(others.iter()).enumerate() {
+            if *key != *other {
+                return Some(place);
+            }
+        }
+        None
+    }
+
+    // The greatest distance, with the place of the first pixel that has it.
+    pub fn deepest(&self) -> Option<(u64, usize)> {
+        deepest(self.keys.as_slice())
     }
 }

@@ -64,6 +64,15 @@ pub fn ring(heap: Global) -> Result<Vec<u8>, AllocError> {
     Ok(picture)
 }
 
+// All carbon but for the first pixel.
+pub fn corner(heap: Global, size: Size) -> Result<Vec<u8>, AllocError> {
+    let mut picture = Vec::new(heap);
+    for place in 0..size.pixels() {
+        picture.push(if place == 0 { AIR } else { CARBON })?;
+    }
+    Ok(picture)
+}
+
 // Numbers at random, the same in every run.
 #[derive(Clone, Copy)]
 pub struct Random {

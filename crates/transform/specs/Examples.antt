@@ -11,6 +11,7 @@ use Rattle.metric.specs.Laws.{Lawful}
 use Rattle.metric.specs.Metrics.{city-block, chessboard, chamfer, squared-euclidean}
 use Rattle.transform.specs.Settled.{settled}
 use Rattle.transform.specs.Erosion.{rounds, First-idle}
+use Rattle.transform.specs.Directional.{Phases}
 
 -- what a settled sheet h high and w wide reads at row r, column c
 abbrev pub reads : Model → ℕ → ℕ → List ℕ → ℕ → ℕ → Option (ℕ × ℕ)
@@ -38,3 +39,5 @@ pub record Worked : Type 0 where
   -- air at the left end of a row of three: the right end reads 4 after 3 rounds, of which the third is the first idle one
   pub row-of-three : reading-of (rounds squared-euclidean 1 3 (image-of 3 (0 ∷ 1 ∷ 1 ∷ [])) 3 0 2) ≡ Some (4, 0)
   pub row-of-three-rounds : First-idle 1 3 (rounds squared-euclidean 1 3 (image-of 3 (0 ∷ 1 ∷ 1 ∷ []))) 3
+  -- two by two, all air: each of the four directional phases is idle at once
+  pub all-air-phases : Phases squared-euclidean 2 2 (image-of 2 (0 ∷ 0 ∷ 0 ∷ 0 ∷ [])) 4

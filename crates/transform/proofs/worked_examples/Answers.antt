@@ -11,6 +11,7 @@ use Rattle.metric.specs.Model.{Model}
 use Rattle.metric.specs.Metrics.{squared-euclidean}
 use Rattle.transform.specs.Settled.{air-key, settled}
 use Rattle.transform.specs.Erosion.{starting, eroded, rounds, Idle, First-idle}
+use Rattle.transform.specs.Directional.{swept, sweeps}
 use Rattle.transform.proofs.worked_examples.Needs as need
 
 -- images agree on one row of pixels where they agree at each
@@ -29,8 +30,16 @@ two P a b = below-more P 1 (one P a) b
 three : (P : ℕ → Type 0) → P 0 → P 1 → P 2 → (k : ℕ) → k < 3 → P k
 three P a b c = below-more P 2 (two P a b) c
 
+-- images agree on two rows of two pixels where they agree at each
+two-rows : (f g : Image) → f 0 0 ≡ g 0 0 → f 0 1 ≡ g 0 1 → f 1 0 ≡ g 1 0 → f 1 1 ≡ g 1 1 → Same 2 2 f g
+two-rows f g a b c d r e row column = two (λ r. (k : ℕ) → k < 2 → f r k ≡ g r k) (two _ a b) (two _ c d) r row e column
+
+-- a series that is idle from the start
+at-once : (h w : ℕ) (series : ℕ → Image) → Idle h w series 0 → First-idle h w series 1
+at-once h w series idle = record { before = 0; next = refl; idle = idle; busy = λ j p. absurd (omega arith) }
+
 pub returns : need.returns
-unfolding settled air-key least-on least rounds starting eroded ring
+unfolding swept sweeps settled air-key least-on least rounds starting eroded ring
 returns c = record {
   key-of-ten = refl;
   key-of-one = refl;
@@ -46,4 +55,13 @@ returns c = record {
   first-of-equals = refl;
   row-of-three = refl;
   row-of-three-rounds = record { before = 2; next = refl; idle = one-row 3 _ _ (three _ refl refl refl); busy = two _ (λ idle. let e : _≡_ {A = ℕ} 1048576 blank = idle 0 1 (omega arith) (omega arith) in omega arith) (λ idle. let e : _≡_ {A = ℕ} 4194304 blank = idle 0 2 (omega arith) (omega arith) in omega arith) };
+  all-air-phases = record {
+    north = 1;
+    south = 1;
+    west = 1;
+    east = 1;
+    columns = record { first-ends = at-once 2 2 _ (two-rows _ _ refl refl refl refl); second-ends = at-once 2 2 _ (two-rows _ _ refl refl refl refl) };
+    rows = record { first-ends = at-once 2 2 _ (two-rows _ _ refl refl refl refl); second-ends = at-once 2 2 _ (two-rows _ _ refl refl refl refl) };
+    sum = refl;
+  };
 }
