@@ -6,7 +6,7 @@ use Prim.Native.Nat.{ℕ, _+_, _-_, _*_, _≤_, _<_, min, max}
 use native.Mathlib.Omega.{arith}
 use native.Mathlib.Nat.{le-antisymm, le-trans, mul-comm}
 use lib.Dec.{ltb}
-use Rattle.std.proofs.shelf.Tests.{cases-lt, cases-eq, cases-order, cond-true, cond-both, lt-ltb, ltb-true}
+use Rattle.std.proofs.shelf.Tests.{cases-lt, cases-order, cond-both, lt-ltb, ltb-true}
 use Rattle.std.proofs.shelf.Bits.{mul-add-lt}
 use Rattle.std.proofs.shelf.Ways.{tells}
 use Rattle.sheet.specs.Pixels.{place-of, apart, ring, weight-of}

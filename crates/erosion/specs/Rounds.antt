@@ -2,7 +2,7 @@
 use mathlib.Core.Path.{_≡_}
 use mathlib.Core.Bool.{Bool, true, false}
 use mathlib.Core.List.{List}
-use Prim.Native.Nat.{ℕ, _+_, _*_, _≤_, _<_, max}
+use Prim.Native.Nat.{ℕ, _+_, _*_, _≤_, max}
 use Rattle.sheet.specs.declared.direction.Direction.{Direction}
 use Rattle.sheet.specs.declared.size.Size.{Size}
 use Rattle.sheet.specs.Images.{Image, image-of}

@@ -1,7 +1,6 @@
 // Pixels of a sheet in memory that is known to hold the sheet.
 ghost use mathlib.Core.Path.{_≡_};
-ghost use Prim.Native.Nat.{ℕ, _*_, _≤_, _<_};
-ghost use lib.ListN.{length};
+ghost use Prim.Native.Nat.{ℕ, _*_, _<_};
 ghost use Rattle.sheet.specs.Pixels.{place-of};
 ghost use Rattle.sheet.specs.Images.{image-of};
 ghost use Rattle.erosion.specs.Walks.{turn};

@@ -1,13 +1,12 @@
 // The parallel order: whole rounds, each from the image before it.
 ghost use mathlib.Core.Path.{_≡_};
-ghost use mathlib.Core.Bool.{Bool, true, false};
-ghost use Prim.Native.Nat.{ℕ, _+_, _*_, _≤_, _<_, max};
+ghost use mathlib.Core.Bool.{true, false};
+ghost use Prim.Native.Nat.{ℕ, _+_, _<_};
 ghost use Rattle.sheet.specs.Images.{image-of};
 ghost use Rattle.sheet.specs.Keys.{stepped};
 ghost use Rattle.sheet.specs.Refusals.{Answers, passed};
-ghost use Rattle.metric.specs.Model.{Model};
-ghost use Rattle.erosion.specs.Memory.{Shows, Fits, On, past, needs-memory};
-ghost use Rattle.erosion.specs.Window.{west-of, east-of, upright-of, lowest-of};
+ghost use Rattle.erosion.specs.Memory.{Fits, On, past, needs-memory};
+ghost use Rattle.erosion.specs.Window.{east-of, upright-of, lowest-of};
 ghost use Rattle.erosion.specs.Rounds.{Rounded, round-of, Settles, Counts-rounds};
 use crate::memory::key_at;
 use crate::memory::put_key;

@@ -2,14 +2,13 @@
 // while it is in the cache; columns are worked as the rows of the sheet with rows and columns exchanged.
 ghost use mathlib.Core.Path.{_≡_};
 ghost use mathlib.Core.Bool.{true};
-ghost use Prim.Native.Nat.{ℕ, suc, _+_, _*_, _≤_, _<_, max};
-ghost use lib.ListN.{length, getD};
+ghost use Prim.Native.Nat.{ℕ, _+_, _≤_, _<_, max};
+ghost use lib.ListN.{length};
 ghost use Rattle.sheet.specs.Images.{image-of};
 ghost use Rattle.metric.specs.Laws.{Lawful};
 ghost use Rattle.metric.specs.Model.{Model};
 ghost use Rattle.transform.specs.Directional.{Along-rows, Keyed, sweeps};
-ghost use Rattle.transform.specs.Erosion.{First-idle};
-ghost use Rattle.erosion.specs.Memory.{Shows, Fits, past};
+ghost use Rattle.erosion.specs.Memory.{Fits, past};
 ghost use Rattle.erosion.specs.Phases.{Straights, Row-phase, Phase-of};
 ghost use Rattle.erosion.specs.Rounds.{Settles, Counts-phases};
 use crate::memory::copy;

@@ -1,7 +1,7 @@
 // The raster order: two scans, each of which uses the keys that it has already rewritten.
 ghost use mathlib.Core.Path.{_≡_};
-ghost use mathlib.Core.Bool.{Bool, true, false, not};
-ghost use Prim.Native.Nat.{ℕ, _+_, _*_, _≤_, _<_};
+ghost use mathlib.Core.Bool.{true, false, not};
+ghost use Prim.Native.Nat.{ℕ, _+_, _<_};
 ghost use Rattle.sheet.specs.Images.{image-of};
 ghost use Rattle.sheet.specs.Refusals.{Answers, check, passed};
 ghost use Rattle.sheet.specs.declared.refusal.Refusal.the-variants.{NotAdmitted};

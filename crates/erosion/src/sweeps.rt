@@ -1,6 +1,6 @@
 // Directional rounds in memory that is known to hold the sheet.
 ghost use mathlib.Core.Path.{_≡_};
-ghost use mathlib.Core.Bool.{Bool, true, false};
+ghost use mathlib.Core.Bool.{true, false};
 ghost use Prim.Native.Nat.{ℕ, _<_};
 ghost use Rattle.sheet.specs.Images.{image-of};
 ghost use Rattle.transform.specs.Directional.{neighbour-key};

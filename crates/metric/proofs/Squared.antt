@@ -1,15 +1,14 @@
 -- The laws of the squared Euclidean metric.
 use mathlib.Core.Path.{_≡_, refl, ap, _∙_}
-use mathlib.Core.Bool.{Bool, true, false, cond, _&&_}
+use mathlib.Core.Bool.{true, false}
 use mathlib.Core.Logic.{_⊎_, ⊎-elim}
-use Prim.Native.Nat.{ℕ, suc, _+_, _-_, _*_, _≤_, _<_, min, max}
+use Prim.Native.Nat.{ℕ, suc, _+_, _-_, _*_, _≤_, _<_, max}
 use native.Mathlib.Nat.{mul-add, add-mul, mul-one, mul-le-mul}
 use native.Mathlib.Omega.{arith}
-use lib.Dec.{eqb, leb}
 use Rattle.std.proofs.shelf.Tests.{cases-order, cases-eq, cases-lt, false≢true}
 use Rattle.sheet.specs.Pixels.{apart, weight-of}
 use Rattle.sheet.proofs.Weights.{weight-straight, weight-diagonal}
-use Rattle.metric.specs.Model.{Model, at-level, at-offset}
+use Rattle.metric.specs.Model.{at-level, at-offset}
 use Rattle.metric.specs.Laws.{Lawful, Reached, Constant}
 use Rattle.metric.specs.Metrics.{squared-euclidean}
 use Rattle.metric.proofs.Bounds.{level-in, level-out, level-bound, offset-in, offset-out, offset-bound}

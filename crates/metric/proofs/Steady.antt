@@ -1,18 +1,18 @@
 -- The laws of weights that do not change with the level, once for all weights: straight a and diagonal b with
 -- 1 ≤ a ≤ b ≤ 2 * a, where far takes a step of b for each of the lesser offset and one of a for each of the rest.
 use mathlib.Core.Path.{_≡_, refl, sym, ap, subst, _∙_}
-use mathlib.Core.Bool.{Bool, true, false, cond, _&&_}
+use mathlib.Core.Bool.{Bool, true}
 use mathlib.Core.Logic.{_⊎_, ⊎-elim}
 use Prim.Native.Nat.{ℕ, suc, _+_, _-_, _*_, _≤_, _<_, min, max}
 use native.Mathlib.Nat.{mul-add, add-mul, mul-one, mul-le-mul-left, max-add-min}
 use native.Mathlib.Omega.{arith}
-use lib.Dec.{eqb, leb}
+use lib.Dec.{eqb}
 use Rattle.std.proofs.shelf.Tests.{cases-order, cases-eq, cases-lt, eqb-true, eq-eqb}
 use Rattle.std.proofs.shelf.Ways.{tells}
 use Rattle.sheet.specs.Pixels.{apart, weight-of}
 use Rattle.sheet.proofs.Weights.{weight-straight, weight-diagonal}
-use Rattle.metric.specs.Model.{Model, at-level, at-offset}
-use Rattle.metric.specs.Laws.{Lawful, Reached, Parted, step-weight}
+use Rattle.metric.specs.Model.{at-level, at-offset}
+use Rattle.metric.specs.Laws.{Lawful, Reached, Parted}
 use Rattle.metric.specs.Metrics.{steady-model}
 use Rattle.metric.proofs.Bounds.{level-in, level-out, level-bound, offset-in, offset-out, offset-bound}
 

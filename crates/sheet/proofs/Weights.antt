@@ -1,9 +1,7 @@
 -- The weight of a step to a straight and to a diagonal neighbour.
 use mathlib.Core.Path.{_≡_}
-use mathlib.Core.Bool.{cond}
 use Prim.Native.Nat.{ℕ, _+_}
 use native.Mathlib.Omega.{arith}
-use lib.Dec.{eqb}
 use Rattle.std.proofs.shelf.Ways.{tells}
 use Rattle.sheet.specs.Pixels.{weight-of}
 

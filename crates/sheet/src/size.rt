@@ -1,7 +1,7 @@
 ghost use mathlib.Core.Path.{_≡_};
 ghost use mathlib.Core.Bool.{_||_};
 ghost use Prim.Native.Nat.{_+_, _*_, _/_, _%_, _≤_, _<_};
-ghost use lib.Dec.{eqb, leb, ltb};
+ghost use lib.Dec.{leb, ltb};
 ghost use Rattle.sheet.specs.Pixels.{place-of};
 ghost use Rattle.sheet.specs.Refusals.{Answers, check, passed, bad-side};
 ghost use Rattle.sheet.specs.declared.refusal.Refusal.the-variants.{BadSize, ShortMemory, OutOfRange};

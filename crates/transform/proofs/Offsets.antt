@@ -1,10 +1,10 @@
 -- Offsets between pixels, one coordinate at a time, and the laws of a metric at pixels.
-use mathlib.Core.Path.{_≡_, sym, subst, _∙_}
+use mathlib.Core.Path.{_≡_, sym, _∙_}
 use mathlib.Core.Logic.{⊎-elim}
 use Prim.Native.Nat.{ℕ, suc, _+_, _-_, _≤_, _<_, max}
 use native.Mathlib.Omega.{arith}
 use Rattle.std.proofs.shelf.Tests.{cases-lt}
-use Rattle.sheet.specs.Pixels.{apart, ring, weight-of}
+use Rattle.sheet.specs.Pixels.{apart, ring}
 use Rattle.metric.specs.Model.{Model}
 use Rattle.metric.specs.Laws.{Lawful, Reached, step-weight}
 

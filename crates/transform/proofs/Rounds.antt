@@ -9,12 +9,12 @@ use lib.Dec.{eqb}
 use Rattle.std.proofs.shelf.Tests.{cases-lt, cases-eq, cond-true, cond-both, eq-eqb, eqb-true}
 use Rattle.std.proofs.shelf.Bits.{mul-add-lt, mul-le}
 use Rattle.sheet.specs.Pixels.{place-of, apart, ring}
-use Rattle.sheet.specs.Keys.{blank, key-of, stepped}
+use Rattle.sheet.specs.Keys.{blank}
 use Rattle.sheet.specs.Images.{Image, Same}
 use Rattle.metric.specs.Model.{Model}
 use Rattle.metric.specs.Laws.{Lawful, step-weight}
 use Rattle.transform.specs.Settled.{settled, ringed}
-use Rattle.transform.specs.Erosion.{starting, eroded, rounds, Idle, First-idle}
+use Rattle.transform.specs.Erosion.{starting, rounds, Idle, First-idle}
 use Rattle.transform.specs.Parallel.{Rounds-look-at-rings, Idle-stays-idle, First-idle-comes, First-idle-settles}
 use Rattle.transform.proofs.Least.{eroded-own, eroded-near, le-eroded}
 use Rattle.transform.proofs.Offsets.{ring-triangle, ring-zero, ring-self, raises-at, nearer}

@@ -5,7 +5,7 @@ use Prim.Native.Nat.{ℕ}
 use Rattle.std.specs.declared.option.Option.{Option}
 use Rattle.std.specs.declared.option.Option.the-variants.{Some, None}
 use Rattle.sheet.specs.Keys.{key-of, reading-of}
-use Rattle.sheet.specs.Images.{Image, image-of}
+use Rattle.sheet.specs.Images.{image-of}
 use Rattle.metric.specs.Model.{Model}
 use Rattle.metric.specs.Laws.{Lawful}
 use Rattle.metric.specs.Metrics.{city-block, chessboard, chamfer, squared-euclidean}

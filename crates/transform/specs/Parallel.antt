@@ -1,6 +1,5 @@
 -- What is shown of the parallel order, for every lawful metric, every sheet and every picture.
-use mathlib.Core.Path.{_≡_}
-use Prim.Native.Nat.{ℕ, suc, _≤_, _<_, max}
+use Prim.Native.Nat.{ℕ, _≤_, _<_, max}
 use Rattle.sheet.specs.Images.{Image, Same}
 use Rattle.metric.specs.Model.{Model}
 use Rattle.metric.specs.Laws.{Lawful}

@@ -1,14 +1,10 @@
 use mathlib.Core.Path.{_≡_, refl, sym, ap, _∙_}
-use mathlib.Core.List.{[], _∷_}
-use mathlib.Core.Logic.{⊎-elim}
 use Prim.Native.Nat.{ℕ, _<_, min}
 use native.Mathlib.Omega.{arith}
 use borrow.Author.Count.{below-none, below-more}
 use Rattle.sheet.specs.Pixels.{ring}
 use Rattle.sheet.specs.Keys.{blank, key-of, reading-of}
-use Rattle.sheet.specs.Images.{Image, Same, image-of, least, least-on}
-use Rattle.metric.specs.Model.{Model}
-use Rattle.metric.specs.Metrics.{squared-euclidean}
+use Rattle.sheet.specs.Images.{Image, Same, least, least-on}
 use Rattle.transform.specs.Settled.{air-key, settled}
 use Rattle.transform.specs.Erosion.{starting, eroded, rounds, Idle, First-idle}
 use Rattle.transform.specs.Directional.{swept, sweeps}

@@ -1,6 +1,5 @@
 use mathlib.Core.Path.{_≡_}
 use mathlib.Core.Bool.{true, false}
-use Prim.Native.Nat.{ℕ, _<_}
 use Rattle.sheet.specs.Images.{Same, image-of}
 use Rattle.erosion.specs.Memory.{past}
 use Rattle.erosion.specs.Rounds.{round-of}

@@ -1,5 +1,5 @@
 use mathlib.Core.Path.{_≡_, refl, sym, subst, _∙_}
-use Prim.Native.Nat.{ℕ, _+_, _≤_, _<_}
+use Prim.Native.Nat.{ℕ, _+_}
 use native.Mathlib.Omega.{arith}
 use Rattle.sheet.specs.Images.{Image, image-of}
 use Rattle.transform.specs.Directional.{sweeps}

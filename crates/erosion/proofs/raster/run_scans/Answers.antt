@@ -1,4 +1,4 @@
-use mathlib.Core.Path.{_≡_, refl, _∙_}
+use mathlib.Core.Path.{refl, _∙_}
 use Rattle.sheet.specs.Images.{Image, image-of}
 use Rattle.transform.specs.Raster.{rising, falling}
 use Rattle.transform.proofs.Raster.{scans-settle}

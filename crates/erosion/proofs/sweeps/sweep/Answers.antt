@@ -2,7 +2,6 @@ use mathlib.Core.Path.{_≡_, sym, ap, _∙_}
 use Prim.Native.Nat.{ℕ, _<_}
 use native.Mathlib.Omega.{arith}
 use Rattle.sheet.specs.Images.{Image, image-of}
-use Rattle.transform.specs.Directional.{swept}
 use Rattle.erosion.specs.Rounds.{sweep-of}
 use Rattle.erosion.specs.Walks.{turn, backward}
 use Rattle.erosion.proofs.Walks.{turn-back, turn-more, turn-below, swept-in-rows}

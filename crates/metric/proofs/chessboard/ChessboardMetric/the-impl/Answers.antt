@@ -1,6 +1,5 @@
 use mathlib.Core.Path.{refl}
-use mathlib.Core.Bool.{true, false}
-use Prim.Native.Nat.{_+_, _*_}
+use mathlib.Core.Bool.{false}
 use native.Mathlib.Omega.{arith}
 use Rattle.metric.proofs.Steady.{steady-lawful}
 use Rattle.metric.proofs.chessboard.ChessboardMetric.the-impl.Needs as need

@@ -1,6 +1,6 @@
 use mathlib.Core.Path.{refl}
-use mathlib.Core.Bool.{true, false}
-use Prim.Native.Nat.{_+_, _*_}
+use mathlib.Core.Bool.{true}
+use Prim.Native.Nat.{_+_}
 use native.Mathlib.Omega.{arith}
 use Rattle.metric.proofs.Steady.{steady-lawful}
 use Rattle.metric.proofs.city_block.CityBlockMetric.the-impl.Needs as need
