@@ -7,7 +7,7 @@ ghost use Rattle.sheet.specs.Refusals.{Answers, check, passed};
 ghost use Rattle.sheet.specs.declared.refusal.Refusal.the-variants.{NotAdmitted};
 ghost use Rattle.erosion.specs.Memory.{Fits, past, needs-memory};
 ghost use Rattle.erosion.specs.Rounds.{Scanned, Settles};
-ghost use Rattle.erosion.specs.Walks.{turn, turned-image};
+ghost use Rattle.erosion.specs.Walks.{turn, walk-of};
 ghost use Rattle.erosion.specs.Window.{prior-of, window-of};
 use crate::memory::copy;
 use crate::memory::key_at;
@@ -31,7 +31,7 @@ pub enum Sense {
 fn prior_key(size: Size, keys: &[u64], from_end: bool, i: usize, j: usize) -> u64
     requires fits { ⌜ Fits size (now keys) ⌝ }
     requires on { ⌜ i < size .height ⌝ }
-    ensures { λ r. ⌜ r ≡ prior-of (size .width) (turned-image «from_end» (size .height) (size .width) (image-of (size .width) (now (keys .entry)))) i j ⌝ }
+    ensures { λ r. ⌜ r ≡ prior-of (size .width) (walk-of «from_end» size (now (keys .entry))) i j ⌝ }
 {
     if i > 0 && j < size.width {
         key_at(
@@ -49,7 +49,7 @@ fn prior_key(size: Size, keys: &[u64], from_end: bool, i: usize, j: usize) -> u6
 fn scan_row(size: Size, keys: &mut [u64], from_end: bool, i: usize, straight: u32, diagonal: u32)
     requires fits { ⌜ Fits size (now keys) ⌝ }
     requires on { ⌜ i < size .height ⌝ }
-    ensures line { λ _. ⌜ ((j : ℕ) → j < size .width → turned-image «from_end» (size .height) (size .width) (image-of (size .width) (now (keys .exit))) i j ≡ window-of (size .width) straight diagonal (turned-image «from_end» (size .height) (size .width) (image-of (size .width) (now (keys .entry)))) (turned-image «from_end» (size .height) (size .width) (image-of (size .width) (now (keys .exit)))) i j) ⌝ }
+    ensures line { λ _. ⌜ ((j : ℕ) → j < size .width → walk-of «from_end» size (now (keys .exit)) i j ≡ window-of (size .width) straight diagonal (walk-of «from_end» size (now (keys .entry))) (walk-of «from_end» size (now (keys .exit))) i j) ⌝ }
     ensures others { λ _. ⌜ ((r c : ℕ) → c < size .width → (r ≡ turn «from_end» (size .height) i → ⊥) → image-of (size .width) (now (keys .exit)) r c ≡ image-of (size .width) (now (keys .entry)) r c) ⌝ }
     ensures rest { λ _. ⌜ past size (now (keys .exit)) ≡ past size (now (keys .entry)) ⌝ }
 {
@@ -72,7 +72,7 @@ fn scan_row(size: Size, keys: &mut [u64], from_end: bool, i: usize, straight: u3
 // A scan of keys that are known to hold the sheet, counted from the start or from the end.
 fn scan_rows(size: Size, keys: &mut [u64], from_end: bool, straight: u32, diagonal: u32)
     requires { ⌜ Fits size (now keys) ⌝ }
-    ensures image { λ _. ⌜ ((i j : ℕ) → i < size .height → j < size .width → turned-image «from_end» (size .height) (size .width) (image-of (size .width) (now (keys .exit))) i j ≡ window-of (size .width) straight diagonal (turned-image «from_end» (size .height) (size .width) (image-of (size .width) (now (keys .entry)))) (turned-image «from_end» (size .height) (size .width) (image-of (size .width) (now (keys .exit)))) i j) ⌝ }
+    ensures image { λ _. ⌜ ((i j : ℕ) → i < size .height → j < size .width → walk-of «from_end» size (now (keys .exit)) i j ≡ window-of (size .width) straight diagonal (walk-of «from_end» size (now (keys .entry))) (walk-of «from_end» size (now (keys .exit))) i j) ⌝ }
     ensures rest { λ _. ⌜ past size (now (keys .exit)) ≡ past size (now (keys .entry)) ⌝ }
 {
     for i in 0..size.height {
