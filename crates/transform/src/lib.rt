@@ -1,6 +1,7 @@
 // The distance transform as mathematics: what a picture's settled image is, and the theorems that the orders come to it.
 ghost use Rattle.transform.specs.Examples.{Worked};
 ghost use Rattle.transform.specs.Raster.{Scans-settle};
+ghost use Rattle.transform.specs.Free.{Stable-settles};
 ghost use Rattle.transform.specs.Parallel.{Rounds-look-at-rings, Idle-stays-idle, First-idle-comes, First-idle-settles};
 ghost use Rattle.transform.specs.Directional.{Sweeps-stay-idle, Phase-ends, Phases-reach, Columns-then-rows, Phases-settle};
 
@@ -24,6 +25,11 @@ pub fn directional_settles()
 // The raster order comes to the settled image, for every lawful steady metric.
 pub fn raster_settles()
     ensures { λ _. ⌜ Scans-settle ⌝ }
+{}
+
+// What the free order comes to, whatever the sequence, is the settled image, for every lawful steady metric.
+pub fn stable_settles()
+    ensures { λ _. ⌜ Stable-settles ⌝ }
 {}
 
 // The worked examples hold.
