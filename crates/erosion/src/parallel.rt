@@ -3,7 +3,6 @@ ghost use mathlib.Core.Path.{_≡_};
 ghost use mathlib.Core.Bool.{true, false};
 ghost use Prim.Native.Nat.{ℕ, _+_, _<_};
 ghost use Rattle.sheet.specs.Images.{image-of};
-ghost use Rattle.sheet.specs.Keys.{stepped};
 ghost use Rattle.sheet.specs.Refusals.{Answers, passed};
 ghost use Rattle.erosion.specs.Memory.{Fits, On, past, needs-memory};
 ghost use Rattle.erosion.specs.Window.{east-of, upright-of, lowest-of};

@@ -1,0 +1,3 @@
+pub mod Marked
+pub mod Ring
+pub mod Queued
