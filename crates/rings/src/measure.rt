@@ -21,7 +21,7 @@ use std::alloc::AllocError;
 use std::alloc::Global;
 
 // The pixels of a picture that are air, in raster order.
-pub fn air_of(heap: Global, size: Size, picture: &[u8]) -> Result<Vec<Pixel>, AllocError> {
+pub(crate) fn air_of(heap: Global, size: Size, picture: &[u8]) -> Result<Vec<Pixel>, AllocError> {
     let mut air = Vec::new(heap);
     for (place, byte) in picture.iter().enumerate() {
         if *byte == 0 {
@@ -74,7 +74,7 @@ pub enum Order {
 pub const ORDERS: [Order; 3] = [Order::Parallel, Order::Directional, Order::Raster];
 
 impl Order {
-    pub fn name(self) -> &'static str {
+    pub(crate) fn name(self) -> &'static str {
         match self {
             Order::Parallel => "parallel",
             Order::Directional => "directional",
@@ -94,7 +94,7 @@ pub struct Case {
 }
 
 impl Case {
-    pub fn new(heap: Global, size: Size, picture: Vec<u8>) -> Result<Self, AllocError> {
+    pub(crate) fn new(heap: Global, size: Size, picture: Vec<u8>) -> Result<Self, AllocError> {
         let air = air_of(heap, size, picture.as_slice())?;
         let keys = vec![in heap; 0; size.pixels()]?;
         let spare = vec![in heap; 0; size.pixels()]?;
@@ -108,7 +108,7 @@ impl Case {
     }
 
     // How many pixels are air.
-    pub fn air_count(&self) -> usize {
+    pub(crate) fn air_count(&self) -> usize {
         self.air.len()
     }
 
@@ -124,7 +124,7 @@ impl Case {
     }
 
     // Settles the picture by a metric and an order; gives the count.
-    pub fn settle(&mut self, formula: Formula, order: Order) -> Result<u64, Refusal> {
+    pub(crate) fn settle(&mut self, formula: Formula, order: Order) -> Result<u64, Refusal> {
         match formula {
             Formula::CityBlock => self.settle_by(&CityBlock, order),
             Formula::Chessboard => self.settle_by(&Chessboard, order),
@@ -134,7 +134,7 @@ impl Case {
     }
 
     // The first place at which the search by a metric's formula finds something else than the keys say.
-    pub fn first_wrong(&self, formula: Formula) -> Option<usize> {
+    pub(crate) fn first_wrong(&self, formula: Formula) -> Option<usize> {
         first_wrong(
             self.size,
             formula,
@@ -144,12 +144,12 @@ impl Case {
     }
 
     // A copy of the keys.
-    pub fn keys(&self) -> Result<Vec<u64>, AllocError> {
+    pub(crate) fn keys(&self) -> Result<Vec<u64>, AllocError> {
         self.keys.clone()
     }
 
     // The first place at which the keys differ from others.
-    pub fn first_other(&self, others: &[u64]) -> Option<usize> {
+    pub(crate) fn first_other(&self, others: &[u64]) -> Option<usize> {
         for (place, (key, other)) in self.keys.iter().zip(others.iter()).enumerate() {
             if *key != *other {
                 return Some(place);
@@ -159,7 +159,7 @@ impl Case {
     }
 
     // The greatest distance, with the place of the first pixel that has it.
-    pub fn deepest(&self) -> Option<(u64, usize)> {
+    pub(crate) fn deepest(&self) -> Option<(u64, usize)> {
         deepest(self.keys.as_slice())
     }
 }

@@ -53,7 +53,7 @@ fn in_void(row: usize, column: usize) -> bool
 }
 
 // A ring of carbon with a slanted crack and some voids.
-pub fn ring(heap: Global) -> Result<Vec<u8>, AllocError> {
+pub(crate) fn ring(heap: Global) -> Result<Vec<u8>, AllocError> {
     let mut picture = Vec::new(heap);
     for row in 0..RING_HEIGHT {
         for column in 0..RING_WIDTH {
@@ -65,7 +65,7 @@ pub fn ring(heap: Global) -> Result<Vec<u8>, AllocError> {
 }
 
 // All carbon but for the first pixel.
-pub fn corner(heap: Global, size: Size) -> Result<Vec<u8>, AllocError> {
+pub(crate) fn corner(heap: Global, size: Size) -> Result<Vec<u8>, AllocError> {
     let mut picture = Vec::new(heap);
     for place in 0..size.pixels() {
         picture.push(if place == 0 { AIR } else { CARBON })?;
@@ -80,7 +80,7 @@ pub struct Random {
 }
 
 impl Random {
-    pub fn new() -> Self {
+    pub(crate) fn new() -> Self {
         Random { state: 1 }
     }
 
@@ -93,7 +93,7 @@ impl Random {
     }
 
     // A picture in which one pixel in so many is air.
-    pub fn picture(
+    pub(crate) fn picture(
         &mut self,
         heap: Global,
         size: Size,

@@ -17,7 +17,7 @@ pub const FORMULAS: [Formula; 4] = [
 ];
 
 impl Formula {
-    pub fn name(self) -> &'static str {
+    pub(crate) fn name(self) -> &'static str {
         match self {
             Formula::CityBlock => "city-block",
             Formula::Chessboard => "chessboard",
@@ -52,7 +52,7 @@ pub struct Pixel {
 }
 
 // The distance to the nearest of some pixels in raster order, with the place of the first that is so near.
-pub fn nearest(formula: Formula, from: Pixel, pixels: &[Pixel]) -> Option<(u64, u64)> {
+pub(crate) fn nearest(formula: Formula, from: Pixel, pixels: &[Pixel]) -> Option<(u64, u64)> {
     let mut best: Option<(u64, u64)> = None;
     for pixel in pixels {
         let distance = formula.distance(
