@@ -59,7 +59,7 @@ top n keys d p within filled has_it none_higher none_before = record { within = 
 pub returns : goal.returns
 unfolding settled air_key least_on least
 returns c =
-    let worked = c.worked-examples.ensures in
+    let worked = c.worked_examples.ensures in
     record {
       figures = worked;
       lone_carbon = λ m law. only_reading m law 1 1 (omega arith) (omega arith) _ 0 0 None (worked.lone_carbon m law);

@@ -14,8 +14,8 @@ text_more answers i d text line h was new =
 
 pub loop-answer-preserved : goal.loop-answer-preserved
 loop-answer-preserved c =
-    c.in-ok-push-str.ensures.bytes
-    ∙ text_more c.args.answers.now c.loop-answer.answer-index _ _ _ c.loop-answer-test.true c.loop-answer.invariant (c.as-str.ensures.value ∙ c.in-ok-line.ensures.ok)
+    c.in_ok-push_str.ensures.bytes
+    ∙ text_more c.args.answers.now c.loop-answer.answer-index _ _ _ c.loop-answer-test.true c.loop-answer.invariant (c.as_str.ensures.value ∙ c.in_ok-line.ensures.ok)
 
 pub returns : goal.returns
 returns c = c.loop-answer.invariant ∙ ap text_of (take_all c.loop-answer.answer-index c.args.answers.now (omega arith))

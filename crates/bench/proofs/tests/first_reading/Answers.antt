@@ -20,11 +20,11 @@ read_true size picture m s row column (Err refusal) a = tt
 -- the run of this bench: opened, settled and read
 pub returns : goal.returns
 returns g c =
-    let opening = c.in-ok-bench.ensures in
-    let size = c.in-ok-bench.bench.size in
+    let opening = c.in_ok-bench.ensures in
+    let size = c.in_ok-bench.bench.size in
     let picture = c.args.picture.now in
     let m = g.M.Metric.model c.args.metric.now in
-    let run = (c.in-ok-settle.ensures.runs_on size picture [] picture c.open.new.keys picture c.settle.new.keys opening.begins finds_all finds_all).1 in
+    let run = (c.in_ok-settle.ensures.runs_on size picture [] picture c.open.new.keys picture c.settle.new.keys opening.begins finds_all finds_all).1 in
     let given = (c.read.ensures.runs_on picture [] [] 0 size picture (_ ∷ []) picture c.settle.new.keys picture c.settle.new.keys run finds_all finds_all).0.answer in
     let width = opening.answers.1.0 in
     let height = opening.answers.1.1 in

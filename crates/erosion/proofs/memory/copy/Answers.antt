@@ -7,6 +7,6 @@ pub returns : goal.returns
 returns c = record {
   image = λ r d h k. let p = mul-add-lt r c.args.size.width d c.args.size.height h k in search (rules, places);
   rest =
-      let e : length c.copy-from-slice.new.self ≡ c.args.size.width * c.args.size.height = search (rules, places) in
+      let e : length c.copy_from_slice.new.self ≡ c.args.size.width * c.args.size.height = search (rules, places) in
       drop_at _ _ _ e ∙ ap (λ k. drop k c.args.other.now) (omega arith);
 }

@@ -19,10 +19,10 @@ loop-column-preserved c =
     let whole = window_eroded c.args.size.height c.args.size.width c.args.straight c.args.diagonal f r i c.requires.on on in
     let least : c.lowest-least.result ≡ round_of c.args.size c.args.straight c.args.diagonal c.args.keys.now r i = cc in (
       below_more _ _
-          (λ d h. c.put-key.ensures.others r d (omega arith) (λ _ e. omega arith) ∙ c.loop-column.invariant.0 d h)
-          (c.put-key.ensures.pixel ∙ least),
-      (λ q d h n. c.put-key.ensures.others q d h (λ e _. n e) ∙ c.loop-column.invariant.1 q d h n),
-      (c.put-key.ensures.rest ∙ c.loop-column.invariant.2),
+          (λ d h. c.put_key.ensures.others r d (omega arith) (λ _ e. omega arith) ∙ c.loop-column.invariant.0 d h)
+          (c.put_key.ensures.pixel ∙ least),
+      (λ q d h n. c.put_key.ensures.others q d h (λ e _. n e) ∙ c.loop-column.invariant.1 q d h n),
+      (c.put_key.ensures.rest ∙ c.loop-column.invariant.2),
       elim c.if-least-own.branch [
         | then-least-own w ↦ λ e. grind arith
         | else-least-own w ↦ λ e. below_more _ _ (c.loop-column.invariant.3 (sym w.altered-is ∙ e)) (sym least ∙ w.if-least-own.false ∙ own)
@@ -33,6 +33,6 @@ loop-column-preserved c =
       ],
       (own ∙ sym (west_next f r i)),
       (pair ∙ sym (west_next u r i)),
-      c.east-key-east.ensures,
-      c.east-upright-east-pair.ensures,
+      c.east_key-east.ensures,
+      c.east_upright-east_pair.ensures,
     )

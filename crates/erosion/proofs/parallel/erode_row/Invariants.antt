@@ -14,6 +14,6 @@ invariant-loop-column l =
     × (l.altered ≡ false → (c : ℕ) → c < l.column → round_of l.size l.straight l.diagonal l.keys l.row c ≡ image_of l.size.width l.keys l.row c)
     × (l.altered ≡ true → ((c : ℕ) → c < l.size.width → round_of l.size l.straight l.diagonal l.keys l.row c ≡ image_of l.size.width l.keys l.row c) → ⊥)
     × (l.west ≡ west_of (image_of l.size.width l.keys) l.row l.column)
-    × (l.west-pair ≡ west_of (upright_of l.size.height (image_of l.size.width l.keys)) l.row l.column)
+    × (l.west_pair ≡ west_of (upright_of l.size.height (image_of l.size.width l.keys)) l.row l.column)
     × (l.own_val ≡ cond (ltb l.column l.size.width) (image_of l.size.width l.keys l.row l.column) blank)
     × (l.pair ≡ cond (ltb l.column l.size.width) (upright_of l.size.height (image_of l.size.width l.keys) l.row l.column) blank)

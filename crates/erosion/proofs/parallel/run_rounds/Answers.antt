@@ -7,42 +7,42 @@ pub rounds-init : goal.rounds-init
 unfolding rounds
 rounds-init g c = (record { image = c.begin.ensures.image; busy = λ j p. absurd (omega arith) }, refl, refl)
 
-pub overflow-add-level : goal.overflow-add-level
-overflow-add-level g c = omega (arith, few_rounds (g.met.M.Metric.lawful c.args.metric.now) c.rounds.invariant.0)
+pub overflow_add-level : goal.overflow_add-level
+overflow_add-level g c = omega (arith, few_rounds (g.met.M.Metric.lawful c.args.metric.now) c.rounds.invariant.0)
 
-pub overflow-cast-result : goal.overflow-cast-result
-overflow-cast-result g c = omega (arith, few_rounds (g.met.M.Metric.lawful c.args.metric.now) c.rounds.invariant.0)
+pub overflow_cast-result : goal.overflow_cast-result
+overflow_cast-result g c = omega (arith, few_rounds (g.met.M.Metric.lawful c.args.metric.now) c.rounds.invariant.0)
 
-pub returns-then-not-erode-at : goal.returns-then-not-erode-at
-returns-then-not-erode-at g c =
-    let end = done_last (g.met.M.Metric.lawful c.args.metric.now) c.rounds.invariant.0 c.erode-at.ensures c.if-not-erode-at.true in
+pub returns-then-not-erode_at : goal.returns-then-not-erode_at
+returns-then-not-erode_at g c =
+    let end = done_last (g.met.M.Metric.lawful c.args.metric.now) c.rounds.invariant.0 c.erode_at.ensures c.if-not-erode_at.true in
     record {
       settles = record {
         image = end.image_before;
         copy = end.image_after;
         rest = c.rounds.invariant.1 ∙ c.begin.ensures.rest;
-        spare_rest = c.erode-at.ensures.rest ∙ c.rounds.invariant.2;
+        spare_rest = c.erode_at.ensures.rest ∙ c.rounds.invariant.2;
       };
       counts = end.counts;
     }
 
-pub overflow-add-level-in-rounds : goal.overflow-add-level-in-rounds
-overflow-add-level-in-rounds g c = omega (arith, few_rounds (g.met.M.Metric.lawful c.args.metric.now) c.rounds.invariant.0)
+pub overflow_add-level-in-rounds : goal.overflow_add-level-in-rounds
+overflow_add-level-in-rounds g c = omega (arith, few_rounds (g.met.M.Metric.lawful c.args.metric.now) c.rounds.invariant.0)
 
-pub overflow-cast-result-then-not-erode-at-2 : goal.overflow-cast-result-then-not-erode-at-2
-overflow-cast-result-then-not-erode-at-2 g c = omega (arith, few_rounds (g.met.M.Metric.lawful c.args.metric.now) c.rounds.invariant.0)
+pub overflow_cast-result-then-not-erode_at-2 : goal.overflow_cast-result-then-not-erode_at-2
+overflow_cast-result-then-not-erode_at-2 g c = omega (arith, few_rounds (g.met.M.Metric.lawful c.args.metric.now) c.rounds.invariant.0)
 
-pub returns-then-not-erode-at-2 : goal.returns-then-not-erode-at-2
-returns-then-not-erode-at-2 g c =
+pub returns-then-not-erode_at-2 : goal.returns-then-not-erode_at-2
+returns-then-not-erode_at-2 g c =
     let law = g.met.M.Metric.lawful c.args.metric.now in
-    let more = done_more law c.rounds.invariant.0 c.erode-at.ensures c.if-not-erode-at.false in
-    let end = done_last law more c.erode-at-in-rounds.ensures c.if-not-erode-at-2.true in
+    let more = done_more law c.rounds.invariant.0 c.erode_at.ensures c.if-not-erode_at.false in
+    let end = done_last law more c.erode_at-in-rounds.ensures c.if-not-erode_at-2.true in
     record {
       settles = record {
         image = end.image_after;
         copy = end.image_before;
-        rest = c.erode-at-in-rounds.ensures.rest ∙ c.rounds.invariant.1 ∙ c.begin.ensures.rest;
-        spare_rest = c.erode-at.ensures.rest ∙ c.rounds.invariant.2;
+        rest = c.erode_at-in-rounds.ensures.rest ∙ c.rounds.invariant.1 ∙ c.begin.ensures.rest;
+        spare_rest = c.erode_at.ensures.rest ∙ c.rounds.invariant.2;
       };
       counts = end.counts;
     }
@@ -53,8 +53,8 @@ rounds-smaller g c = omega (arith, few_rounds (g.met.M.Metric.lawful c.args.metr
 pub rounds-preserved : goal.rounds-preserved
 rounds-preserved g c =
     let law = g.met.M.Metric.lawful c.args.metric.now in
-    let more = done_more law c.rounds.invariant.0 c.erode-at.ensures c.if-not-erode-at.false in (
-      done_more law more c.erode-at-in-rounds.ensures c.if-not-erode-at-2.false,
-      c.erode-at-in-rounds.ensures.rest ∙ c.rounds.invariant.1,
-      c.erode-at.ensures.rest ∙ c.rounds.invariant.2,
+    let more = done_more law c.rounds.invariant.0 c.erode_at.ensures c.if-not-erode_at.false in (
+      done_more law more c.erode_at-in-rounds.ensures c.if-not-erode_at-2.false,
+      c.erode_at-in-rounds.ensures.rest ∙ c.rounds.invariant.1,
+      c.erode_at.ensures.rest ∙ c.rounds.invariant.2,
     )

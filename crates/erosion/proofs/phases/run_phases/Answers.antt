@@ -11,10 +11,10 @@ returns g c =
     let size = c.args.size in
     let table : (n : ℕ) → n ≤ max size.width size.height → Straights m n c.straights-weights.result =
     λ n p i q. c.straights-weights.ensures.weights i (omega (arith, c.max.ensures)) in
-    let north = c.settle-rows-north.ensures.phase m law (table size.height (omega arith)) in
-    let south = c.settle-rows-south.ensures.phase m law (table size.height (omega arith)) in
-    let west = c.settle-rows-west.ensures.phase m law (table size.width (omega arith)) in
-    let east = c.settle-rows-east.ensures.phase m law (table size.width (omega arith)) in
+    let north = c.settle_rows-north.ensures.phase m law (table size.height (omega arith)) in
+    let south = c.settle_rows-south.ensures.phase m law (table size.height (omega arith)) in
+    let west = c.settle_rows-west.ensures.phase m law (table size.width (omega arith)) in
+    let east = c.settle_rows-east.ensures.phase m law (table size.width (omega arith)) in
     let all =
     four_phases m law c.requires.splits size.height size.width size.rows size.tall size.columns size.wide (image_of size.width c.args.picture.now) _ _ _ _ _ _ _ _ _ _ _
     c.begin.ensures.image c.transpose.ensures.image
@@ -27,8 +27,8 @@ returns g c =
       settles = record {
         image = all.0;
         copy = λ r d p q. c.copy.ensures.image r d p q ∙ all.0 r d p q;
-        rest = c.settle-rows-east.ensures.rest ∙ c.settle-rows-west.ensures.rest ∙ across _ _ c.transpose-2.ensures.rest ∙ c.begin.ensures.rest;
-        spare_rest = c.copy.ensures.rest ∙ across _ _ (c.settle-rows-south.ensures.rest ∙ c.settle-rows-north.ensures.rest) ∙ c.transpose.ensures.rest;
+        rest = c.settle_rows-east.ensures.rest ∙ c.settle_rows-west.ensures.rest ∙ across _ _ c.transpose-2.ensures.rest ∙ c.begin.ensures.rest;
+        spare_rest = c.copy.ensures.rest ∙ across _ _ (c.settle_rows-south.ensures.rest ∙ c.settle_rows-north.ensures.rest) ∙ c.transpose.ensures.rest;
       };
       counts = record { phases = all.1; soon = all.2 };
     }

@@ -17,21 +17,21 @@ loop-k-init c = ((λ m law table. record { line = λ d h. refl; busy = λ j p. a
 pub loop-k-preserved : goal.loop-k-preserved
 loop-k-preserved c = (
   (λ m law table.
-      row_more m c.args.direction c.requires.along c.args.size.height c.args.size.width (image_of c.args.size.width c.args.keys.now) (image_of c.args.size.width c.loop-k.keys) (image_of c.args.size.width c.sweep-row.new.keys) c.args.row c.loop-k.k _
-      (c.loop-k.invariant.0 m law table) (table c.loop-k.k c.loop-k-test.true) c.sweep-row.ensures.line
-      (c.sweep-row.ensures.busy c.if-not-sweep-row.false)),
-  (λ r d h n. c.sweep-row.ensures.others r d h n ∙ c.loop-k.invariant.1 r d h n),
-  (c.sweep-row.ensures.rest ∙ c.loop-k.invariant.2),
+      row_more m c.args.direction c.requires.along c.args.size.height c.args.size.width (image_of c.args.size.width c.args.keys.now) (image_of c.args.size.width c.loop-k.keys) (image_of c.args.size.width c.sweep_row.new.keys) c.args.row c.loop-k.k _
+      (c.loop-k.invariant.0 m law table) (table c.loop-k.k c.loop-k-test.true) c.sweep_row.ensures.line
+      (c.sweep_row.ensures.busy c.if-not-sweep_row.false)),
+  (λ r d h n. c.sweep_row.ensures.others r d h n ∙ c.loop-k.invariant.1 r d h n),
+  (c.sweep_row.ensures.rest ∙ c.loop-k.invariant.2),
 )
 
-pub returns-then-not-sweep-row : goal.returns-then-not-sweep-row
-returns-then-not-sweep-row c = record {
+pub returns-then-not-sweep_row : goal.returns-then-not-sweep_row
+returns-then-not-sweep_row c = record {
   phase = λ m law table keyed.
-      row_last m c.args.direction c.requires.along c.args.size.height c.args.size.width (image_of c.args.size.width c.args.keys.now) (image_of c.args.size.width c.loop-k.keys) (image_of c.args.size.width c.sweep-row.new.keys) c.args.row c.loop-k.k _
-      (c.loop-k.invariant.0 m law table) (table c.loop-k.k c.loop-k-test.true) c.sweep-row.ensures.line
-      (c.sweep-row.ensures.idle c.if-not-sweep-row.true);
-  others = λ r d h n. c.sweep-row.ensures.others r d h n ∙ c.loop-k.invariant.1 r d h n;
-  rest = c.sweep-row.ensures.rest ∙ c.loop-k.invariant.2;
+      row_last m c.args.direction c.requires.along c.args.size.height c.args.size.width (image_of c.args.size.width c.args.keys.now) (image_of c.args.size.width c.loop-k.keys) (image_of c.args.size.width c.sweep_row.new.keys) c.args.row c.loop-k.k _
+      (c.loop-k.invariant.0 m law table) (table c.loop-k.k c.loop-k-test.true) c.sweep_row.ensures.line
+      (c.sweep_row.ensures.idle c.if-not-sweep_row.true);
+  others = λ r d h n. c.sweep_row.ensures.others r d h n ∙ c.loop-k.invariant.1 r d h n;
+  rest = c.sweep_row.ensures.rest ∙ c.loop-k.invariant.2;
   few = omega arith;
 }
 

@@ -31,12 +31,12 @@ loop-row-preserved c =
           let phase =
           row_phase_same w (sweeps m c.args.direction h w g) (sweeps m c.args.direction h w f) row _ _
           (sweeps_along m c.args.direction h w g f row c.requires.along (λ d q. c.loop-row.invariant.1 row d (omega arith) q))
-          (c.settle-row.ensures.phase m law table (rows_keyed m c.args.direction h w row c.loop-row.most f g keyed done c.loop-row.invariant.1)) in
-          subst (λ (n : ℕ). RowsDone w (sweeps m c.args.direction h w f) (row + 1) n (image_of w c.settle-row.new.keys)) (sym c.max-most.ensures)
-          (rows_more w (sweeps m c.args.direction h w f) (λ r i j. row_stays_idle m c.args.direction h w f r i j law c.requires.along) row c.loop-row.most c.settle-row.result g _ (omega (arith, c.settle-row.ensures.few)) done phase c.settle-row.ensures.others)),
-      (λ r d p q. c.settle-row.ensures.others r d q (λ e. omega arith) ∙ c.loop-row.invariant.1 r d (omega arith) q),
-      (c.settle-row.ensures.rest ∙ c.loop-row.invariant.2),
-      omega (arith, c.settle-row.ensures.few, c.max-most.ensures, c.loop-row.invariant.3),
+          (c.settle_row.ensures.phase m law table (rows_keyed m c.args.direction h w row c.loop-row.most f g keyed done c.loop-row.invariant.1)) in
+          subst (λ (n : ℕ). RowsDone w (sweeps m c.args.direction h w f) (row + 1) n (image_of w c.settle_row.new.keys)) (sym c.max-most.ensures)
+          (rows_more w (sweeps m c.args.direction h w f) (λ r i j. row_stays_idle m c.args.direction h w f r i j law c.requires.along) row c.loop-row.most c.settle_row.result g _ (omega (arith, c.settle_row.ensures.few)) done phase c.settle_row.ensures.others)),
+      (λ r d p q. c.settle_row.ensures.others r d q (λ e. omega arith) ∙ c.loop-row.invariant.1 r d (omega arith) q),
+      (c.settle_row.ensures.rest ∙ c.loop-row.invariant.2),
+      omega (arith, c.settle_row.ensures.few, c.max-most.ensures, c.loop-row.invariant.3),
     )
 
 pub returns : goal.returns

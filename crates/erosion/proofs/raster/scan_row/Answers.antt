@@ -8,11 +8,11 @@ use Rattle.erosion.proofs.ScanWindow.{west_same, prior_same}
 use Rattle.erosion.proofs.raster.scan_row.Goals as goal
 
 pub loop-j-init : goal.loop-j-init
-loop-j-init c = ((λ k p. absurd (omega arith)), (λ r d p q. refl), refl, refl, refl, c.prior-key-above.ensures)
+loop-j-init c = ((λ k p. absurd (omega arith)), (λ r d p q. refl), refl, refl, refl, c.prior_key-above.ensures)
 
 pub loop-j-preserved : goal.loop-j-preserved
 loop-j-preserved c =
-    let e : Bool = c.args.from-end in
+    let e : Bool = c.args.from_end in
     let h : ℕ = c.args.size.height in
     let w : ℕ = c.args.size.width in
     let i : ℕ = c.args.i in
@@ -21,22 +21,22 @@ loop-j-preserved c =
     let column : ℕ = c.turned-column.result in
     let f : Image = turned_image e h w (image_of w c.args.keys.now) in
     let g : Image = turned_image e h w (image_of w c.loop-j.keys) in
-    let g' : Image = turned_image e h w (image_of w c.put-key.new.keys) in
+    let g' : Image = turned_image e h w (image_of w c.put_key.new.keys) in
     let on : j < w = c.loop-j-test.true in
     let at : turn e w column ≡ j = turn_back e w j column on c.turned-column.ensures.is in
     let at_row : row ≡ turn e h i = c.turned-row.ensures.is in
     let at-column : column ≡ turn e w j = c.turned-column.ensures.is in
     let kept : (k : ℕ) → k < j → g' i k ≡ g i k =
-    λ k p. c.put-key.ensures.others (turn e h i) (turn e w k) (turn_on e w k (omega arith)) (λ _ q. omega (arith, turn_only e w k j (omega arith) on (q ∙ at-column))) in
+    λ k p. c.put_key.ensures.others (turn e h i) (turn e w k) (turn_on e w k (omega arith)) (λ _ q. omega (arith, turn_only e w k j (omega arith) on (q ∙ at-column))) in
     let before : (k : ℕ) → prior_of w g i k ≡ prior_of w f i k =
     λ k. prior_same w g f i k (λ p q.
     c.loop-j.invariant.1 (turn e h (i - 1)) (turn e w k) (turn_on e w k q) (λ r. omega (arith, turn_only e h (i - 1) i (omega arith) c.requires.on (r ∙ at_row)))) in
     let west' : (k : ℕ) → k ≤ j → west_of g' i k ≡ west_of g i k = λ k p. west_same g' g i k (λ q. kept (k - 1) (omega arith)) in
-    let here : g' i j ≡ c.lowest-least.result = (λ x. image_of w c.put-key.new.keys (sym at_row x) (sym at-column x)) ∙ c.put-key.ensures.pixel in
-    let own : c.key-at-own.result ≡ f i j =
-    c.key-at-own.ensures ∙ c.loop-j.invariant.1 row column c.turned-column.ensures.within (λ _. omega arith) ∙ (λ x. image_of w c.args.keys.now (at_row x) (at-column x)) in
+    let here : g' i j ≡ c.lowest-least.result = (λ x. image_of w c.put_key.new.keys (sym at_row x) (sym at-column x)) ∙ c.put_key.ensures.pixel in
+    let own : c.key_at-own.result ≡ f i j =
+    c.key_at-own.ensures ∙ c.loop-j.invariant.1 row column c.turned-column.ensures.within (λ _. omega arith) ∙ (λ x. image_of w c.args.keys.now (at_row x) (at-column x)) in
     let west : c.loop-j.west ≡ west_of g' i j = c.loop-j.invariant.3 ∙ sym (west' j (omega arith)) in
-    let next : c.prior-key-next.result ≡ prior_of w f i (j + 1) = c.prior-key-next.ensures ∙ before (j + 1) in
+    let next : c.prior_key-next.result ≡ prior_of w f i (j + 1) = c.prior_key-next.ensures ∙ before (j + 1) in
     let corner = c.loop-j.invariant.4 in
     let above = c.loop-j.invariant.5 in
     let least : c.lowest-least.result ≡ lowest_of (f i j) (min (west_of g' i j) (prior_of w f i j)) (min (west_of (prior_of w f) i j) (prior_of w f i (j + 1))) c.args.straight c.args.diagonal = cc in (
@@ -46,9 +46,9 @@ loop-j-preserved c =
           ∙ (λ x. lowest_of (f i k) (min (sym (west' k (omega arith)) x) (prior_of w f i k)) (min (west_of (prior_of w f) i k) (prior_of w f i (k + 1))) c.args.straight c.args.diagonal))
           (here ∙ least),
       (λ r d p n.
-          c.put-key.ensures.others r d p (λ q s. omega (arith, n q, ap (turn e w) s))
+          c.put_key.ensures.others r d p (λ q s. omega (arith, n q, ap (turn e w) s))
           ∙ c.loop-j.invariant.1 r d p (λ q. omega (arith, n q))),
-      (c.put-key.ensures.rest ∙ c.loop-j.invariant.2),
+      (c.put_key.ensures.rest ∙ c.loop-j.invariant.2),
       (sym here ∙ sym (west_next g' i j)),
       (above ∙ sym (west_next (prior_of w f) i j)),
       next,
@@ -56,7 +56,7 @@ loop-j-preserved c =
 
 pub returns : goal.returns
 returns c =
-    let e : Bool = c.args.from-end in
+    let e : Bool = c.args.from_end in
     let h : ℕ = c.args.size.height in
     let w : ℕ = c.args.size.width in
     let i : ℕ = c.args.i in

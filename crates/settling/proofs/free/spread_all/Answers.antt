@@ -4,25 +4,25 @@ use Rattle.sheet.specs.Images.{image_of}
 use Rattle.settling.proofs.Turns.{taken_inside, turn_less, turn_between, spread_above}
 use Rattle.settling.proofs.free.spread_all.Goals as goal
 
-pub row-of-row-requires : goal.row-of-row-requires
-row-of-row-requires g c = record { inverse = refl; on = taken_inside _ _ _ _ _ _ _ _ _ c.loop-place.invariant.0 c.in-Some.ensures.taken }
+pub row_of-row-requires : goal.row_of-row-requires
+row_of-row-requires g c = record { inverse = refl; on = taken_inside _ _ _ _ _ _ _ _ _ c.loop-place.invariant.0 c.in-Some.ensures.taken }
 
-pub overflow-sub-column : goal.overflow-sub-column
-overflow-sub-column g c = c.row-of-row.ensures.starts
+pub overflow_sub-column : goal.overflow_sub-column
+overflow_sub-column g c = c.row_of-row.ensures.starts
 
-pub spread-from-requires : goal.spread-from-requires
-spread-from-requires g c =
+pub spread_from-requires : goal.spread_from-requires
+spread_from-requires g c =
     let size = c.args.size in
     let before = c.loop-place.invariant.0 in
     let takes = c.in-Some.ensures.taken in
     record {
       fits = omega (arith, c.requires.fits);
       room = omega (arith, before.room, ap length takes.waits_no_more, length-set (g.F.Front.waits c.loop-place.front) c.in-Some.place false);
-      on = (c.row-of-row.ensures.row, c.row-of-row.ensures.column);
+      on = (c.row_of-row.ensures.row, c.row_of-row.ensures.column);
     }
 
 pub loop-place-smaller : goal.loop-place-smaller
-loop-place-smaller g c = turn_less _ _ _ _ _ _ _ _ _ _ _ c.loop-place.invariant.0 c.in-Some.ensures.taken c.spread-from.ensures.relaxed
+loop-place-smaller g c = turn_less _ _ _ _ _ _ _ _ _ _ _ c.loop-place.invariant.0 c.in-Some.ensures.taken c.spread_from.ensures.relaxed
 
 pub loop-place-preserved : goal.loop-place-preserved
 loop-place-preserved g c =
@@ -31,9 +31,9 @@ loop-place-preserved g c =
     let k : ℕ = c.in-Some.place in
     let inv = c.loop-place.invariant in
     let taken = c.in-Some.ensures.taken in
-    let done = c.spread-from.ensures in
-    let at = c.row-of-row.ensures in
-    let row : ℕ = c.row-of-row.result in
+    let done = c.spread_from.ensures in
+    let at = c.row_of-row.ensures in
+    let row : ℕ = c.row_of-row.result in
     let column : ℕ = k - row * w in (
       turn_between size _ _ _ _ _ _ _ _ _ k inv.0 taken done.relaxed _ row column (omega (arith, at.starts)) done.tally at.column done.image done.rest,
       done.relaxed.same_size ∙ ap length taken.waits_no_more ∙ length-set (g.F.Front.waits c.loop-place.front) k false ∙ inv.1,

@@ -7,7 +7,7 @@ use Rattle.sheets.proofs.calls.peak.Goals as goal
 
 pub returns : goal.returns
 returns c =
-    let passed = c.in-ok-check-memory.ensures.0 in
+    let passed = c.in_ok-check_memory.ensures.0 in
     let pixels : c.pixels.result - 0 ≡ c.args.size.width * c.args.size.height = omega arith in
     let enough : c.pixels.result - 0 ≤ length c.args.keys.now = omega (arith, long_enough _ _ (passes _ _ passed)) in
     let long = length-take-le (c.pixels.result - 0) c.args.keys.now enough ∙ pixels in

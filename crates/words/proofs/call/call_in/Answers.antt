@@ -5,9 +5,9 @@ use Rattle.words.specs.Calls.{call_by}
 use Rattle.words.proofs.CallLines.{lettered}
 use Rattle.words.proofs.call.call_in.Goals as goal
 
-pub returns-in-ok-call-of : goal.returns-in-ok-call-of
-returns-in-ok-call-of c =
-    let name = sym (c.in-ok-call-of.ensures ∙ ap call_of c.from.ensures) in
-    c.call-by.ensures
-    ∙ ap (call_by c.in-ok-call-of.field-0) (take_rest c.args.line.now 2)
-    ∙ sym (lettered c.args.line.now c.in-ok-call-of.field-0 (search rules) (search rules) name)
+pub returns-in_ok-call_of : goal.returns-in_ok-call_of
+returns-in_ok-call_of c =
+    let name = sym (c.in_ok-call_of.ensures ∙ ap call_of c.from.ensures) in
+    c.call_by.ensures
+    ∙ ap (call_by c.in_ok-call_of.field-0) (take_rest c.args.line.now 2)
+    ∙ sym (lettered c.args.line.now c.in_ok-call_of.field-0 (search rules) (search rules) name)

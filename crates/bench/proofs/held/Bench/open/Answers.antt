@@ -5,7 +5,7 @@ use Rattle.bench.proofs.held.Bench.open.Goals as goal
 
 pub returns : goal.returns
 returns c =
-    let said = c.in-ok-size.ensures in
+    let said = c.in_ok-size.ensures in
     record {
       answers = (said.0, (said.1.0, said.1.1, refl, said.1.2));
       begins = opened c.args.keys.now ((λ i. open_refusal (said.1.0 i) (said.1.1 i) c.args.picture.now c.args.keys.now) ∙ said.0) refl said.1.2;

@@ -4,8 +4,8 @@ use Rattle.front.specs.Memory.{is_set, marked}
 use Rattle.front.proofs.Marked.{cleared, cleared_rest, cleared_count}
 use Rattle.front.proofs.queue_front.QueueFront.over.Goals as goal
 
-pub invariant-of-result : goal.invariant-of-result
-invariant-of-result c =
+pub invariant_of-result : goal.invariant_of-result
+invariant_of-result c =
     let n = c.fitting-fit.result in
     let f = c.fitting-fit.ensures in
     let none = ap (λ ms. count_by is_set (take n ms)) c.clear.ensures ∙ cleared_count c.args.flags.now n in
@@ -22,8 +22,8 @@ returns c =
       waits = ap (marked n) c.clear.ensures ∙ cleared flags n;
       order = refl;
       tally = refl;
-      ring-lender = refl;
-      ring-same = refl;
-      flags-lender = refl;
+      ring_lender = refl;
+      ring_same = refl;
+      flags_lender = refl;
       flags_rest = ap (drop n) c.clear.ensures ∙ cleared_rest flags n;
     }

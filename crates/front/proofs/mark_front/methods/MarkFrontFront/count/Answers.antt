@@ -9,4 +9,4 @@ returns c =
     let ms = s.marks.now in
     let n = s.size in
     let e : n - 0 ≡ n = omega arith in
-    record { size = sym (length_marked ms n s.fits); waiting = c.how-many.ensures ∙ (ap (λ m. count_by is_set (take m ms)) e ∙ many_marked ms n); tally = refl }
+    record { size = sym (length_marked ms n s.fits); waiting = c.how_many.ensures ∙ (ap (λ m. count_by is_set (take m ms)) e ∙ many_marked ms n); tally = refl }

@@ -14,8 +14,8 @@ loop-i-preserved c =
 pub bounds-self-i : goal.bounds-self-i
 bounds-self-i c = omega (arith, c.loop-i.invariant.0, c.loop-i.self.fits)
 
-pub invariant-of-self : goal.invariant-of-self
-invariant-of-self c =
+pub invariant_of-self : goal.invariant_of-self
+invariant_of-self c =
     let s = c.loop-i.self in
     (s.bounded, (simp length-set s.fits, (s.within, (clear_kept s.marks.now c.loop-i.i s.low (omega (arith, c.loop-i.invariant.0, s.fits)) s.below, tt))))
 

@@ -34,7 +34,7 @@ returns c =
         within = rw (length_marked ms n s.fits) l;
         waited = get_or_marked_in ms n at l ∙ is_set_yes _ (c.lowest-at.ensures.found l);
         waits_no_more = ap (map is_set) (take_set_in n ms at 0) ∙ map-set is_set (take n ms) at 0;
-        raised_tally = c.saturating-add-tally.ensures;
+        raised_tally = c.saturating_add-tally.ensures;
       };
       lowest = λ k m. get_or_marked_in ms n k (omega arith) ∙ is_set_no _ (c.lowest-at.ensures.below k m);
       size = refl;

@@ -17,9 +17,9 @@ returns-then-place-self c =
       put = (out_of_range fs n p s.fits.1 c.if-place-self.true, refl);
       order = rw (get_or_past (marked n fs) p true past) refl;
       size = refl;
-      ring-lender = refl;
+      ring_lender = refl;
       ring_rest = refl;
-      flags-lender = refl;
+      flags_lender = refl;
       flags_rest = refl;
     }
 
@@ -35,14 +35,14 @@ returns-then-self-place-ne0 c =
       put = (in_range fs n p s.fits.1 l, record { waits_now = sym (ap (set (marked n fs) p) (sym is) ∙ set-get_or (marked n fs) p true); same_tally = refl });
       order = rw is refl;
       size = refl;
-      ring-lender = refl;
+      ring_lender = refl;
       ring_rest = refl;
-      flags-lender = refl;
+      flags_lender = refl;
       flags_rest = refl;
     }
 
-pub overflow-add-self : goal.overflow-add-self
-overflow-add-self c =
+pub overflow_add-self : goal.overflow_add-self
+overflow_add-self c =
     let s = c.args.self.now in
     let w = s.within (omega arith) in
     omega (arith, waiting_most s, s.bounded)
@@ -53,8 +53,8 @@ turned-at-requires c =
     let w = s.within (omega arith) in
     omega (arith, waiting_most s)
 
-pub invariant-of-self : goal.invariant-of-self
-invariant-of-self c =
+pub invariant_of-self : goal.invariant_of-self
+invariant_of-self c =
     let s = c.args.self.now in
     let at = c.turned-at.result in
     let p = c.args.place in
@@ -81,8 +81,8 @@ invariant-of-self c =
       ),
     )
 
-pub invariant-of-self-2 : goal.invariant-of-self-2
-invariant-of-self-2 c =
+pub invariant_of-self-2 : goal.invariant_of-self-2
+invariant_of-self-2 c =
     let s = c.args.self.now in
     let n = s.size in
     let at = c.turned-at.result in
@@ -128,8 +128,8 @@ returns c =
       put = (in_range fs n p s.fits.1 l, record { waits_now = ap (map is_set) (take_set_in n fs p 1) ∙ map-set is_set (take n fs) p 1; same_tally = refl });
       order = rw is (ap (λ rs. slots rs s.head (s.waiting + 1)) (take_set_in n s.ring.now at p) ∙ slots_put (places s) s.head s.waiting at p e h (room s p l z));
       size = refl;
-      ring-lender = refl;
+      ring_lender = refl;
       ring_rest = drop-set-lt n s.ring.now at p c.turned-at.ensures.below;
-      flags-lender = refl;
+      flags_lender = refl;
       flags_rest = drop-set-lt n fs p 1 l;
     }

@@ -5,16 +5,16 @@ use Rattle.front.proofs.queue_front.methods.QueueFrontFront.start.Goals as goal
 
 pub returns : goal.returns
 returns c =
-    let t = c.in-default.ensures in
+    let t = c.in_default.ensures in
     let i = c.loop-p.invariant in
     record {
       waits = ap queue_waits t.taken.1 ∙ all_false (queue_waits c.loop-p.self) _ i.0 t.taken.0;
       tally = refl;
       order = ap queued t.taken.1 ∙ t.order;
       size = t.size ∙ i.1;
-      ring-lender = t.ring-lender ∙ i.2;
+      ring_lender = t.ring_lender ∙ i.2;
       ring_rest = t.ring_rest ∙ i.3;
-      flags-lender = t.flags-lender ∙ i.4;
+      flags_lender = t.flags_lender ∙ i.4;
       flags_rest = t.flags_rest ∙ i.5;
     }
 

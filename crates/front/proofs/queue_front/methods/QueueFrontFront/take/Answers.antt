@@ -14,20 +14,20 @@ returns-then-self-eq0 c =
       taken = ((λ k. get_or_marked s.flags.now s.size k ∙ none_wait (flags_of s) (sym s.counted ∙ z) k), refl);
       order = ap (slots (places s) s.head) z;
       size = refl;
-      ring-lender = refl;
+      ring_lender = refl;
       ring_rest = refl;
-      flags-lender = refl;
+      flags_lender = refl;
       flags_rest = refl;
     }
 
-pub offset-bounds-self-self : goal.offset-bounds-self-self
-offset-bounds-self-self c = let s = c.args.self.now in omega (arith, head_below s c.if-self-eq0.false, s.bounded)
+pub offset_bounds-self-self : goal.offset_bounds-self-self
+offset_bounds-self-self c = let s = c.args.self.now in omega (arith, head_below s c.if-self-eq0.false, s.bounded)
 
 pub bounds-self-self : goal.bounds-self-self
 bounds-self-self c = let s = c.args.self.now in omega (arith, head_below s c.if-self-eq0.false, s.fits.0)
 
-pub overflow-add-self : goal.overflow-add-self
-overflow-add-self c = let s = c.args.self.now in omega (arith, head_below s c.if-self-eq0.false, s.bounded)
+pub overflow_add-self : goal.overflow_add-self
+overflow_add-self c = let s = c.args.self.now in omega (arith, head_below s c.if-self-eq0.false, s.bounded)
 
 pub turned-next-requires : goal.turned-next-requires
 turned-next-requires c = let s = c.args.self.now in omega (arith, head_below s c.if-self-eq0.false)
@@ -35,8 +35,8 @@ turned-next-requires c = let s = c.args.self.now in omega (arith, head_below s c
 pub bounds-self-place : goal.bounds-self-place
 bounds-self-place c = let s = c.args.self.now in omega (arith, first_below s c.if-self-eq0.false, s.fits.1)
 
-pub invariant-of-self : goal.invariant-of-self
-invariant-of-self c =
+pub invariant_of-self : goal.invariant_of-self
+invariant_of-self c =
     let s = c.args.self.now in
     let ne = c.if-self-eq0.false in
     let p = get_or s.ring.now s.head 0 in
@@ -84,12 +84,12 @@ returns c =
         within = rw (length_marked fs n s.fits.1) (first_below s ne);
         waited = get_or_marked fs n p ∙ first_waits s ne;
         waits_no_more = ap (map is_set) (take_set_in n fs p 0) ∙ map-set is_set (take n fs) p 0;
-        raised_tally = c.saturating-add-tally.ensures;
+        raised_tally = c.saturating_add-tally.ensures;
       };
       order = slots_take (places s) s.head next s.waiting m p e h room nm (first_is s (head_below s ne));
       size = refl;
-      ring-lender = refl;
+      ring_lender = refl;
       ring_rest = refl;
-      flags-lender = refl;
+      flags_lender = refl;
       flags_rest = drop-set-lt n fs p 0 (first_below s ne);
     }
