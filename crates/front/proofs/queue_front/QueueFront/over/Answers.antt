@@ -11,7 +11,14 @@ invariant_of-result c =
     let none = ap (λ ms. count_by is_set (take n ms)) c.clear.ensures ∙ cleared_count c.args.flags.now n in
     let r : n ≤ length c.args.ring.now = omega (arith, f.within, c.min.ensures) in
     let l : n ≤ length c.clear.new.marks = omega (arith, f.within, c.min.ensures) in
-    (f.bounded, ((r, l), ((λ h. h), (sym none, ((λ k l. absurd (omega arith)), ((λ j k l m. absurd (omega arith)), tt))))))
+    record {
+      bounded = f.bounded;
+      fits = (r, l);
+      within = λ h. h;
+      counted = sym none;
+      live = λ k l. absurd (omega arith);
+      apart = λ j k l m. absurd (omega arith);
+    }
 
 pub returns : goal.returns
 returns c =

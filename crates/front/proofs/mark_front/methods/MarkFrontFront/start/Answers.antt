@@ -17,7 +17,12 @@ bounds-self-i c = omega (arith, c.loop-i.invariant.0, c.loop-i.self.fits)
 pub invariant_of-self : goal.invariant_of-self
 invariant_of-self c =
     let s = c.loop-i.self in
-    (s.bounded, (simp length-set s.fits, (s.within, (clear_kept s.marks.now c.loop-i.i s.low (omega (arith, c.loop-i.invariant.0, s.fits)) s.below, tt))))
+    record {
+      bounded = s.bounded;
+      fits = simp length-set s.fits;
+      within = s.within;
+      below = clear_kept s.marks.now c.loop-i.i s.low (omega (arith, c.loop-i.invariant.0, s.fits)) s.below;
+    }
 
 pub returns : goal.returns
 returns c =

@@ -64,22 +64,15 @@ invariant_of-self c =
     let h = head_in s (s.within (omega arith)) in
     let w = sym (take_set_in s.size s.ring.now at p) in
     let P : List _ → Type 0 = λ rs. Live rs (flags_of s) s.head s.waiting in
-    let Q : List _ → Type 0 = λ rs. Apart rs s.head s.waiting in (
-      s.bounded,
-      (
-        (simp length-set s.fits.0, s.fits.1),
-        (
-          s.within,
-          (
-            s.counted,
-            (
-              subst P w (live_ring (places s) (flags_of s) s.head s.waiting at p e h (room s p l z) s.live),
-              (subst Q w (apart_ring (places s) s.head s.waiting at p e h (room s p l z) s.apart), tt),
-            ),
-          ),
-        ),
-      ),
-    )
+    let Q : List _ → Type 0 = λ rs. Apart rs s.head s.waiting in
+    record {
+      bounded = s.bounded;
+      fits = (simp length-set s.fits.0, s.fits.1);
+      within = s.within;
+      counted = s.counted;
+      live = subst P w (live_ring (places s) (flags_of s) s.head s.waiting at p e h (room s p l z) s.live);
+      apart = subst Q w (apart_ring (places s) s.head s.waiting at p e h (room s p l z) s.apart);
+    }
 
 pub invariant_of-self-2 : goal.invariant_of-self-2
 invariant_of-self-2 c =
@@ -95,22 +88,15 @@ invariant_of-self-2 c =
     let v = sym (take_set_in n s.flags.now p 1) in
     let P : List _ → Type 0 = λ rs. Live rs (take n (set s.flags.now p 1)) s.head (s.waiting + 1) in
     let P' : List _ → Type 0 = λ fs. Live (set (places s) at p) fs s.head (s.waiting + 1) in
-    let Q : List _ → Type 0 = λ rs. Apart rs s.head (s.waiting + 1) in (
-      s.bounded,
-      (
-        (simp length-set s.fits.0, simp length-set s.fits.1),
-        (
-          s.within,
-          (
-            ap (λ x. x + 1) s.counted ∙ (sym (count_put (flags_of s) p (flag_in s p l) z) ∙ ap (count_by is_set) v),
-            (
-              subst P w (subst P' v (live_put (places s) (flags_of s) s.head s.waiting at p e h (room s p l z) (flag_in s p l) s.live)),
-              (subst Q w (apart_put (places s) (flags_of s) s.head s.waiting at p e h (room s p l z) z s.live s.apart), tt),
-            ),
-          ),
-        ),
-      ),
-    )
+    let Q : List _ → Type 0 = λ rs. Apart rs s.head (s.waiting + 1) in
+    record {
+      bounded = s.bounded;
+      fits = (simp length-set s.fits.0, simp length-set s.fits.1);
+      within = s.within;
+      counted = ap (λ x. x + 1) s.counted ∙ (sym (count_put (flags_of s) p (flag_in s p l) z) ∙ ap (count_by is_set) v);
+      live = subst P w (subst P' v (live_put (places s) (flags_of s) s.head s.waiting at p e h (room s p l z) (flag_in s p l) s.live));
+      apart = subst Q w (apart_put (places s) (flags_of s) s.head s.waiting at p e h (room s p l z) z s.live s.apart);
+    }
 
 pub returns : goal.returns
 returns c =

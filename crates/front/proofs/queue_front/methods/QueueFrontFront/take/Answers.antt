@@ -49,22 +49,15 @@ invariant_of-self c =
     let nm : s.waiting ≡ m + 1 = omega (arith, ne) in
     let v = sym (take_set_in s.size s.flags.now p 0) in
     let P : List _ → Type 0 = λ fs. Live (places s) fs next m in
-    let less : m ≡ count_by is_set (take s.size _) = omega (arith, s.counted, ct) ∙ ap (count_by is_set) v in (
-      s.bounded,
-      (
-        (s.fits.0, simp length-set s.fits.1),
-        (
-          (λ _. c.turned-next.ensures.below),
-          (
-            less,
-            (
-              subst P v (live_take (places s) (flags_of s) s.head next s.waiting m p e h room nm (first_is s (head_below s ne)) s.live s.apart),
-              (apart_take (places s) s.head next s.waiting m e h room nm s.apart, tt),
-            ),
-          ),
-        ),
-      ),
-    )
+    let less : m ≡ count_by is_set (take s.size _) = omega (arith, s.counted, ct) ∙ ap (count_by is_set) v in
+    record {
+      bounded = s.bounded;
+      fits = (s.fits.0, simp length-set s.fits.1);
+      within = λ _. c.turned-next.ensures.below;
+      counted = less;
+      live = subst P v (live_take (places s) (flags_of s) s.head next s.waiting m p e h room nm (first_is s (head_below s ne)) s.live s.apart);
+      apart = apart_take (places s) s.head next s.waiting m e h room nm s.apart;
+    }
 
 pub returns : goal.returns
 returns c =
