@@ -19,15 +19,15 @@ impl Bench {
         front: &mut F,
     ) -> Result<Answer, Refusal>
         ensures answered { Answered
-            (scene self.old picture.old keys.old spare.old (F.Front.waits front.old) (F.Front.tally front.old))
-            (request_of M.Metric.model call.entry)
-            (scene self.new picture.new keys.new spare.new (F.Front.waits front.new) (F.Front.tally front.new))
+            (scene self.old picture.old keys.old spare.old (F.waits front.old) (F.tally front.old))
+            (request_of M.model call.entry)
+            (scene self.new picture.new keys.new spare.new (F.waits front.new) (F.tally front.new))
             result }
-        ensures untouched { uses_front (request_of M.Metric.model call.entry) result ≡ false → front.new ≡ front.old }
+        ensures untouched { uses_front (request_of M.model call.entry) result ≡ false → front.new ≡ front.old }
         ensures runs_on { Goes_on
-            (scene self.old picture.old keys.old spare.old (F.Front.waits front.old) (F.Front.tally front.old))
-            (request_of M.Metric.model call.entry)
-            (scene self.new picture.new keys.new spare.new (F.Front.waits front.new) (F.Front.tally front.new))
+            (scene self.old picture.old keys.old spare.old (F.waits front.old) (F.tally front.old))
+            (request_of M.model call.entry)
+            (scene self.new picture.new keys.new spare.new (F.waits front.new) (F.tally front.new))
             result }
     {
         match (self.state, call) {

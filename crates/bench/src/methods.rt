@@ -80,17 +80,17 @@ impl Bench {
         front: &mut F,
     ) -> Result<u64, Refusal>
         ensures answers { Answers
-            (in_state Open self.old.state (settle_refusal order (M.Metric.model metric.now) self.old.size picture.now keys.old spare.old (F.Front.waits front.old)))
+            (in_state Open self.old.state (settle_refusal order (M.model metric.now) self.old.size picture.now keys.old spare.old (F.waits front.old)))
             ((self.new ≡ self.old) × (keys.new ≡ keys.old) × (spare.new ≡ spare.old) × (front.new ≡ front.old))
             (λ count. (self.new ≡ turned self.old Settled)
-            × Settles (M.Metric.model metric.now) self.old.size picture.now keys.old keys.new spare.old spare.new
-            × Counts order (M.Metric.model metric.now) self.old.size picture.now count
-            × LeavesFront order count (F.Front.waits front.old) (F.Front.tally front.old) (F.Front.waits front.new) (F.Front.tally front.new))
+            × Settles (M.model metric.now) self.old.size picture.now keys.old keys.new spare.old spare.new
+            × Counts order (M.model metric.now) self.old.size picture.now count
+            × LeavesFront order count (F.waits front.old) (F.tally front.old) (F.waits front.new) (F.tally front.new))
             result }
         ensures runs_on { Goes_on
-            (scene self.old picture.now keys.old spare.old (F.Front.waits front.old) (F.Front.tally front.old))
-            (settles (M.Metric.model metric.now) order)
-            (scene self.new picture.now keys.new spare.new (F.Front.waits front.new) (F.Front.tally front.new))
+            (scene self.old picture.now keys.old spare.old (F.waits front.old) (F.tally front.old))
+            (settles (M.model metric.now) order)
+            (scene self.new picture.now keys.new spare.new (F.waits front.new) (F.tally front.new))
             (answering Counted result) }
         ensures untouched { (order ≢ Free) → front.new ≡ front.old }
     {

@@ -23,7 +23,7 @@ fn first_reading<M: Metric, F: Front>(
     spare: &mut [u64],
     front: &mut F,
 ) -> Result<Option<(u64, u64)>, Refusal>
-    ensures { IfOk result (λ reading. ReadingTrue (M.Metric.model metric.now) size.1 size.0 (image_of size.0 picture.now) pixel.0 pixel.1 reading) }
+    ensures { IfOk result (λ reading. ReadingTrue (M.model metric.now) size.1 size.0 (image_of size.0 picture.now) pixel.0 pixel.1 reading) }
 {
     let mut bench = Bench::open(size.0, size.1, picture, keys)?;
     bench.settle(metric, Order::Parallel, picture, keys, spare, front)?;

@@ -40,9 +40,9 @@ pub fn settle<M: Metric>(
     spare: &mut [u64],
 ) -> Result<u64, Refusal>
     ensures { Answers
-        (needs_memory size picture.now (needs_memory size keys.old (needs_memory size spare.old (check (not (model metric.now).splits) NotAdmitted passed))))
+        (needs_memory size picture.now (needs_memory size keys.old (needs_memory size spare.old (check (not (M.model metric.now).splits) NotAdmitted passed))))
         ((keys.new ≡ keys.old) × (spare.new ≡ spare.old))
-        (λ count. Settles (model metric.now) size picture.now keys.old keys.new spare.old spare.new × CountsPhases (model metric.now) size picture.now count)
+        (λ count. Settles (M.model metric.now) size picture.now keys.old keys.new spare.old spare.new × CountsPhases (M.model metric.now) size picture.now count)
         result }
 {
     size.check_memory(picture.len())?;

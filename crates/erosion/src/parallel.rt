@@ -150,7 +150,7 @@ pub fn round(
 fn erode_at<M: Metric>(size: Size, metric: &M, level: u32, keys: &[u64], spare: &mut [u64]) -> bool
     requires keys { Fits size keys.now }
     requires spare { Fits size spare.old }
-    ensures { Rounded size ((model metric.now).straight level) ((model metric.now).diagonal level) keys.now spare.old spare.new result }
+    ensures { Rounded size ((M.model metric.now).straight level) ((M.model metric.now).diagonal level) keys.now spare.old spare.new result }
 {
     let straight = metric.straight(level);
     let diagonal = metric.diagonal(level);
@@ -169,8 +169,8 @@ fn run_rounds<M: Metric>(
     requires picture { Fits size picture.now }
     requires keys { Fits size keys.old }
     requires spare { Fits size spare.old }
-    ensures settles { Settles (model metric.now) size picture.now keys.old keys.new spare.old spare.new }
-    ensures counts { CountsRounds (model metric.now) size picture.now result }
+    ensures settles { Settles (M.model metric.now) size picture.now keys.old keys.new spare.old spare.new }
+    ensures counts { CountsRounds (M.model metric.now) size picture.now result }
 {
     begin(size, picture, keys);
     let mut level = 0;
@@ -198,7 +198,7 @@ pub fn settle<M: Metric>(
     ensures { Answers
         (needs_memory size picture.now (needs_memory size keys.old (needs_memory size spare.old passed)))
         ((keys.new ≡ keys.old) × (spare.new ≡ spare.old))
-        (λ count. Settles (model metric.now) size picture.now keys.old keys.new spare.old spare.new × CountsRounds (model metric.now) size picture.now count)
+        (λ count. Settles (M.model metric.now) size picture.now keys.old keys.new spare.old spare.new × CountsRounds (M.model metric.now) size picture.now count)
         result }
 {
     size.check_memory(picture.len())?;

@@ -23,7 +23,7 @@ const LEVELS: usize = 1024;
 fn straights<M: Metric>(metric: &M, count: usize) -> [u32; LEVELS]
     requires { count ≤ 1024 }
     ensures length { length result ≡ 1024 }
-    ensures weights { Straights (model metric.now) count result }
+    ensures weights { Straights (M.model metric.now) count result }
 {
     let mut weights = [0; LEVELS];
     for k in 0..count {
@@ -85,9 +85,9 @@ pub(crate) fn run_phases<M: Metric>(
     requires picture { Fits size picture.now }
     requires keys { Fits size keys.old }
     requires spare { Fits size spare.old }
-    requires splits { (model metric.now).splits ≡ true }
-    ensures settles { Settles (model metric.now) size picture.now keys.old keys.new spare.old spare.new }
-    ensures counts { CountsPhases (model metric.now) size picture.now result }
+    requires splits { (M.model metric.now).splits ≡ true }
+    ensures settles { Settles (M.model metric.now) size picture.now keys.old keys.new spare.old spare.new }
+    ensures counts { CountsPhases (M.model metric.now) size picture.now result }
 {
     let weights = straights(metric, size.width.max(size.height));
     let turned = Size {

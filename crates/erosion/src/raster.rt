@@ -112,8 +112,8 @@ fn run_scans<M: Metric>(size: Size, metric: &M, picture: &[u8], keys: &mut [u64]
     requires picture { Fits size picture.now }
     requires keys { Fits size keys.old }
     requires spare { Fits size spare.old }
-    requires steady { (model metric.now).steady ≡ true }
-    ensures { Settles (model metric.now) size picture.now keys.old keys.new spare.old spare.new }
+    requires steady { (M.model metric.now).steady ≡ true }
+    ensures { Settles (M.model metric.now) size picture.now keys.old keys.new spare.old spare.new }
 {
     let straight = metric.straight(1);
     let diagonal = metric.diagonal(1);
@@ -133,9 +133,9 @@ pub fn settle<M: Metric>(
     spare: &mut [u64],
 ) -> Result<u64, Refusal>
     ensures { Answers
-        (needs_memory size picture.now (needs_memory size keys.old (needs_memory size spare.old (check (not (model metric.now).steady) NotAdmitted passed))))
+        (needs_memory size picture.now (needs_memory size keys.old (needs_memory size spare.old (check (not (M.model metric.now).steady) NotAdmitted passed))))
         ((keys.new ≡ keys.old) × (spare.new ≡ spare.old))
-        (λ count. Settles (model metric.now) size picture.now keys.old keys.new spare.old spare.new × (count ≡ 2))
+        (λ count. Settles (M.model metric.now) size picture.now keys.old keys.new spare.old spare.new × (count ≡ 2))
         result }
 {
     size.check_memory(picture.len())?;

@@ -72,7 +72,7 @@ fn outcome(size: Size, gave: Result<Given, Refusal>) -> Outcome
 
 // What a call of a list asks of a bench.
 fn asked<M: Metric>(metric: &M, call: Call) -> bench::Call<'_, M>
-    ensures { request_of model result ≡ request_in (model metric.now) call }
+    ensures { request_of model result ≡ request_in (M.model metric.now) call }
 {
     match call {
         Call::Strike { row, column } => bench::Call::Strike { row, column },
@@ -96,8 +96,8 @@ fn run_calls<M: Metric, F: Front>(
     spare: &mut [u64],
     front: &mut F,
 ) -> Result<Vec<Answer>, AllocError>
-    requires { Running size.width size.height (M.Metric.model metric.now) [] [] bench.old picture.old keys.old }
-    ensures { IfOk result (λ answers. Ran size.width size.height (M.Metric.model metric.now) (left list.entry) answers.items) }
+    requires { Running size.width size.height (M.model metric.now) [] [] bench.old picture.old keys.old }
+    ensures { IfOk result (λ answers. Ran size.width size.height (M.model metric.now) (left list.entry) answers.items) }
 {
     let mut answers = Vec::new(heap);
     let mut calls = list;
@@ -125,7 +125,7 @@ fn run_list<M: Metric, F: Front>(
 ) -> Result<Vec<Answer>, AllocError>
     requires picture { picture.old ≡ carbon size }
     requires keys { Fits size keys.old }
-    ensures { IfOk result (λ answers. Ran size.width size.height (M.Metric.model metric.now) (left list.entry) answers.items) }
+    ensures { IfOk result (λ answers. Ran size.width size.height (M.model metric.now) (left list.entry) answers.items) }
 {
     match Bench::open(size.width, size.height, picture, keys) {
         Ok(mut bench) => run_calls(
@@ -143,7 +143,7 @@ fn run_by<M: Metric>(
     metric: &M,
     list: Calls<'_>,
 ) -> Result<Vec<Answer>, AllocError>
-    ensures { IfOk result (λ answers. Ran size.width size.height (model metric.now) (left list.entry) answers.items) }
+    ensures { IfOk result (λ answers. Ran size.width size.height (M.model metric.now) (left list.entry) answers.items) }
 {
     let pixels = size.pixels();
     let mut picture = vec![in heap; 1; pixels]?;

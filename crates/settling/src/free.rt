@@ -183,12 +183,12 @@ fn run_front<M: Metric, F: Front>(
     requires picture { Fits size picture.now }
     requires keys { Fits size keys.old }
     requires spare { Fits size spare.old }
-    requires room { size.width * size.height ≤ length (F.Front.waits front.old) }
-    requires steady { (M.Metric.model metric.now).steady ≡ true }
-    ensures settles { Settles (M.Metric.model metric.now) size picture.now keys.old keys.new spare.old spare.new }
+    requires room { size.width * size.height ≤ length (F.waits front.old) }
+    requires steady { (M.model metric.now).steady ≡ true }
+    ensures settles { Settles (M.model metric.now) size picture.now keys.old keys.new spare.old spare.new }
     ensures counts { CountsTakes size picture.now result }
-    ensures waits { F.Front.waits front.new ≡ idle (length (F.Front.waits front.old)) }
-    ensures tally { F.Front.tally front.new ≡ result }
+    ensures waits { F.waits front.new ≡ idle (length (F.waits front.old)) }
+    ensures tally { F.tally front.new ≡ result }
 {
     let straight = metric.straight(1);
     let diagonal = metric.diagonal(1);
@@ -212,11 +212,11 @@ pub fn settle<M: Metric, F: Front>(
     front: &mut F,
 ) -> Result<u64, Refusal>
     ensures { Answers
-        (settle_refusal Free (M.Metric.model metric.now) size picture.now keys.old spare.old (F.Front.waits front.old))
+        (settle_refusal Free (M.model metric.now) size picture.now keys.old spare.old (F.waits front.old))
         ((keys.new ≡ keys.old) × (spare.new ≡ spare.old) × (front.new ≡ front.old))
-        (λ count. Settles (M.Metric.model metric.now) size picture.now keys.old keys.new spare.old spare.new
+        (λ count. Settles (M.model metric.now) size picture.now keys.old keys.new spare.old spare.new
         × CountsTakes size picture.now count
-        × LeavesFront Free count (F.Front.waits front.old) (F.Front.tally front.old) (F.Front.waits front.new) (F.Front.tally front.new))
+        × LeavesFront Free count (F.waits front.old) (F.tally front.old) (F.waits front.new) (F.tally front.new))
         result }
 {
     size.check_memory(picture.len())?;

@@ -28,11 +28,11 @@ pub fn settle<M: Metric, F: Front>(
     front: &mut F,
 ) -> Result<u64, Refusal>
     ensures answers { Answers
-        (settle_refusal order (M.Metric.model metric.now) size picture.now keys.old spare.old (F.Front.waits front.old))
+        (settle_refusal order (M.model metric.now) size picture.now keys.old spare.old (F.waits front.old))
         ((keys.new ≡ keys.old) × (spare.new ≡ spare.old) × (front.new ≡ front.old))
-        (λ count. Settles (M.Metric.model metric.now) size picture.now keys.old keys.new spare.old spare.new
-        × Counts order (M.Metric.model metric.now) size picture.now count
-        × LeavesFront order count (F.Front.waits front.old) (F.Front.tally front.old) (F.Front.waits front.new) (F.Front.tally front.new))
+        (λ count. Settles (M.model metric.now) size picture.now keys.old keys.new spare.old spare.new
+        × Counts order (M.model metric.now) size picture.now count
+        × LeavesFront order count (F.waits front.old) (F.tally front.old) (F.waits front.new) (F.tally front.new))
         result }
     ensures untouched { (order ≢ Free) → front.new ≡ front.old }
 {

@@ -15,5 +15,5 @@ invariant-loop-column l =
     × (l.altered ≡ true → ((c : ℕ) → c < l.size.width → round_of l.size l.straight l.diagonal l.keys l.row c ≡ image_of l.size.width l.keys l.row c) → ⊥)
     × (l.west ≡ west_of (image_of l.size.width l.keys) l.row l.column)
     × (l.west_pair ≡ west_of (upright_of l.size.height (image_of l.size.width l.keys)) l.row l.column)
-    × (l.own_val ≡ cond (ltb l.column l.size.width) (image_of l.size.width l.keys l.row l.column) blank)
+    × (l.own ≡ cond (ltb l.column l.size.width) (image_of l.size.width l.keys l.row l.column) blank)
     × (l.pair ≡ cond (ltb l.column l.size.width) (upright_of l.size.height (image_of l.size.width l.keys) l.row l.column) blank)
