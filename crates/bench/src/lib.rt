@@ -1,4 +1,6 @@
 // A bench over a sheet, open or settled by turns, and the law of all its runs.
+#![tactic(auto)]
+
 ghost use Rattle.bench.specs.Laws.{RunLaw};
 ghost use Rattle.bench.specs.Examples.{WorkedRings};
 

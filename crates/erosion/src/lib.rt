@@ -1,4 +1,6 @@
 // Orders of work that bring a picture's keys to the settled image, in memory that the caller lends.
+#![tactic(auto)]
+
 ghost use Rattle.erosion.specs.Rounds.{OrdersAgree};
 
 pub mod directional;

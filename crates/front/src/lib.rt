@@ -1,4 +1,6 @@
 // Fronts: places that wait for work, with a tally of takes, in memory that the caller lends.
+#![tactic(auto)]
+
 ghost use Rattle.std.specs.Prelude.{◌≡◌, ℕ, ◌≤◌, Bool, List, length, MatchOption, nat_le};
 ghost use Rattle.sheet.specs.Refusals.{Answers, check, passed};
 ghost use Rattle.sheet.specs.declared.refusal.Refusal.TheVariants.{OutOfRange};

@@ -1,5 +1,5 @@
 -- The laws of the squared Euclidean metric.
-use Rattle.std.specs.Prelude.{◌≡◌, ℕ, suc, ◌+◌, ◌-◌, ◌*◌, ◌<◌, ◌≤◌, max, true, false, ◌⊎◌, refl}
+use Rattle.std.specs.Prelude.{◌≡◌, ℕ, suc, ◌+◌, ◌-◌, ◌*◌, ◌<◌, ◌≤◌, max, true, false, refl}
 use Rattle.std.proofs.Common.{ap, ◌∙◌, ⊎_elim, mul-add, add-mul, mul-one, mul-le-mul, arith}
 use Rattle.std.proofs.lemmas.Bool.{cases_order, cases_eq, cases_lt, false≢true}
 use Rattle.sheet.specs.Pixels.{apart, weight_of}

@@ -1,6 +1,6 @@
 -- The laws of weights that do not change with the level, once for all weights: straight a and diagonal b with
 -- 1 ≤ a ≤ b ≤ 2 * a, where far takes a step of b for each of the lesser offset and one of a for each of the rest.
-use Rattle.std.specs.Prelude.{◌≡◌, ℕ, suc, ◌+◌, ◌-◌, ◌*◌, ◌<◌, ◌≤◌, min, max, Bool, true, ◌⊎◌, ◌==◌, refl}
+use Rattle.std.specs.Prelude.{◌≡◌, ℕ, suc, ◌+◌, ◌-◌, ◌*◌, ◌<◌, ◌≤◌, min, max, Bool, true, ◌==◌, refl}
 use Rattle.std.proofs.Common.{sym, ap, subst, ◌∙◌, ⊎_elim, mul-add, add-mul, mul-one, mul-le-mul_left, arith}
 use Rattle.std.proofs.Math.Nat.{max-add-min}
 use Rattle.std.proofs.lemmas.Bool.{cases_order, cases_eq, cases_lt, eqb-true, eq-eqb}

@@ -1,4 +1,6 @@
 // Metrics: the weights of a step between neighbours, level by level, and the distance of an offset.
+#![tactic(auto)]
+
 ghost use Rattle.std.specs.Prelude.{◌≡◌, unsigned_abs};
 ghost use Rattle.metric.specs.Model.{Model};
 ghost use Rattle.metric.specs.Laws.{Lawful};

@@ -1,4 +1,6 @@
 // Reads a run list, a text of calls for a sheet, without asking for memory.
+#![tactic(auto)]
+
 ghost use Rattle.std.specs.Prelude.{◌≡◌, false, IfOk};
 ghost use Rattle.reader.specs.Lists.{list_of, bad_size};
 ghost use Rattle.reader.specs.Reading.{with_calls};

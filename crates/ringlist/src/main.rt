@@ -1,4 +1,6 @@
 // Reads a run list from standard input and writes its answer to standard output.
+#![tactic(auto)]
+
 ghost use Rattle.std.specs.Prelude.{◌≤◌, length, IfOk};
 
 use runlist::{Reply, answer};

@@ -1,5 +1,7 @@
 // Measures a ring by every metric and order: settles it, compares each pixel with a search over all air, and prints what was
 // found. Then does the same, more briefly, with many small pictures, and runs the greatest sheet.
+#![tactic(auto)]
+
 mod measure;
 mod pictures;
 mod search;

@@ -1,4 +1,6 @@
 // Answers run lists: from a text of calls to the text of their answers.
+#![tactic(auto)]
+
 ghost use Rattle.std.specs.Prelude.{◌≡◌, ◌/◌, ◌%◌, true, List, [], IfOk, Some, MatchResult};
 ghost use Rattle.bench.specs.Calls.{request_of};
 ghost use Rattle.erosion.specs.Memory.{Fits};

@@ -25,13 +25,13 @@ const UNIT: u64 = 4294967296;
 // Offers a key to a pixel: one that has a greater key gets it and is put.
 fn offer<F: Front>(size: Size, keys: &mut [u64], front: &mut F, row: usize, column: usize, key: u64)
     requires fits { Fits size keys.old }
-    requires room { size.width * size.height ≤ length (waits front.old) }
+    requires room { size.width * size.height ≤ length (F.waits front.old) }
     requires on { On size row column }
     ensures pixel { image_of size.width keys.new row column ≡ min (image_of size.width keys.old row column) key }
     ensures others { (r c : ℕ) → c < size.width → (r ≡ row → c ≢ column) → image_of size.width keys.new r c ≡ image_of size.width keys.old r c }
     ensures rest { past size keys.new ≡ past size keys.old }
-    ensures relaxed { Relaxed keys.old keys.new (waits front.old) (waits front.new) }
-    ensures tally { tally front.new ≡ tally front.old }
+    ensures relaxed { Relaxed keys.old keys.new (F.waits front.old) (F.waits front.new) }
+    ensures tally { F.tally front.new ≡ F.tally front.old }
 {
     let target = row * size.width + column;
     if key < keys[target] {
@@ -52,13 +52,13 @@ fn spread_row<F: Front>(
     side: u64,
 )
     requires fits { Fits size keys.old }
-    requires room { size.width * size.height ≤ length (waits front.old) }
+    requires room { size.width * size.height ≤ length (F.waits front.old) }
     requires on { On size row column }
     ensures line { (c : ℕ) → c < size.width → image_of size.width keys.new row c ≡ offered middle side column (image_of size.width keys.old row) c }
     ensures others { (r c : ℕ) → c < size.width → (r ≢ row) → image_of size.width keys.new r c ≡ image_of size.width keys.old r c }
     ensures rest { past size keys.new ≡ past size keys.old }
-    ensures relaxed { Relaxed keys.old keys.new (waits front.old) (waits front.new) }
-    ensures tally { tally front.new ≡ tally front.old }
+    ensures relaxed { Relaxed keys.old keys.new (F.waits front.old) (F.waits front.new) }
+    ensures tally { F.tally front.new ≡ F.tally front.old }
 {
     for at in column.saturating_sub(1)..(column + 2).min(size.width) {
         let key = if at == column { middle } else { side };
@@ -78,12 +78,12 @@ fn spread_from<F: Front>(
     diagonal: u32,
 )
     requires fits { Fits size keys.old }
-    requires room { size.width * size.height ≤ length (waits front.old) }
+    requires room { size.width * size.height ≤ length (F.waits front.old) }
     requires on { On size row column }
     ensures image { Shows size keys.new (spread straight diagonal (image_of size.width keys.old) row column) }
     ensures rest { past size keys.new ≡ past size keys.old }
-    ensures relaxed { Relaxed keys.old keys.new (waits front.old) (waits front.new) }
-    ensures tally { tally front.new ≡ tally front.old }
+    ensures relaxed { Relaxed keys.old keys.new (F.waits front.old) (F.waits front.new) }
+    ensures tally { F.tally front.new ≡ F.tally front.old }
 {
     let key = keys[row * size.width + column];
     let near = key::step(key, straight);
@@ -109,9 +109,9 @@ pub fn spread<F: Front>(
     diagonal: u32,
 ) -> Result<(), Refusal>
     ensures { Answers
-        (needs_memory size keys.old (check (nat_le size.height row || nat_le size.width column) OutOfRange (check (too_small size (waits front.old)) UnfitFront passed)))
+        (needs_memory size keys.old (check (nat_le size.height row || nat_le size.width column) OutOfRange (check (too_small size (F.waits front.old)) UnfitFront passed)))
         ((keys.new ≡ keys.old) × (front.new ≡ front.old))
-        (λ _. Spread size straight diagonal row column keys.old keys.new (waits front.old) (waits front.new) × (tally front.new ≡ tally front.old))
+        (λ _. Spread size straight diagonal row column keys.old keys.new (F.waits front.old) (F.waits front.new) × (F.tally front.new ≡ F.tally front.old))
         result }
 {
     size.check_memory(keys.len())?;
@@ -126,12 +126,12 @@ pub fn spread<F: Front>(
 // Puts every air place into an empty front.
 fn put_air<F: Front>(size: Size, picture: &[u8], front: &mut F)
     requires picture { Fits size picture.now }
-    requires room { size.width * size.height ≤ length (waits front.old) }
-    requires empty { NoneWaits (waits front.old) }
-    ensures air { (k : ℕ) → k < size.width * size.height → slice_index_or (waits front.new) k false ≡ (slice_index picture.now k == 0) }
-    ensures rest { (k : ℕ) → size.width * size.height ≤ k → slice_index_or (waits front.new) k false ≡ false }
-    ensures size { length (waits front.new) ≡ length (waits front.old) }
-    ensures tally { tally front.new ≡ tally front.old }
+    requires room { size.width * size.height ≤ length (F.waits front.old) }
+    requires empty { NoneWaits (F.waits front.old) }
+    ensures air { (k : ℕ) → k < size.width * size.height → slice_index_or (F.waits front.new) k false ≡ (slice_index picture.now k == 0) }
+    ensures rest { (k : ℕ) → size.width * size.height ≤ k → slice_index_or (F.waits front.new) k false ≡ false }
+    ensures size { length (F.waits front.new) ≡ length (F.waits front.old) }
+    ensures tally { F.tally front.new ≡ F.tally front.old }
 {
     for place in 0..size.pixels() {
         if picture[place] == 0 {
@@ -154,14 +154,14 @@ fn row_of(size: Size, inverse: u64, place: usize) -> usize
 // Takes place after place until nothing waits; each offers its key to its neighbours.
 fn spread_all<F: Front>(size: Size, keys: &mut [u64], front: &mut F, straight: u32, diagonal: u32)
     requires fits { Fits size keys.old }
-    requires between { BetweenTakes size straight diagonal keys.old (waits front.old) (tally front.old) }
-    ensures between { BetweenTakes size straight diagonal keys.new (waits front.new) (tally front.new) }
-    ensures empty { NoneWaits (waits front.new) }
-    ensures size { length (waits front.new) ≡ length (waits front.old) }
+    requires between { BetweenTakes size straight diagonal keys.old (F.waits front.old) (F.tally front.old) }
+    ensures between { BetweenTakes size straight diagonal keys.new (F.waits front.new) (F.tally front.new) }
+    ensures empty { NoneWaits (F.waits front.new) }
+    ensures size { length (F.waits front.new) ≡ length (F.waits front.old) }
     ensures rest { past size keys.new ≡ past size keys.old }
     ensures falls { (k : ℕ) → slice_index keys.new k ≤ slice_index keys.old k }
     ensures above { (goal : Image) → Stable size.height size.width straight diagonal goal → Below size.height size.width goal (image_of size.width keys.old) → Below size.height size.width goal (image_of size.width keys.new) }
-    ensures still { NoneWaits (waits front.old) → tally front.new ≡ tally front.old }
+    ensures still { NoneWaits (F.waits front.old) → F.tally front.new ≡ F.tally front.old }
 {
     let inverse = UNIT / size.width as u64 + 1;
     while let Some(place) = front.take() {

@@ -1,4 +1,6 @@
 // One call to settle a picture by any metric, order and front; and the free order.
+#![tactic(auto)]
+
 ghost use Rattle.std.specs.Prelude.{◌≡◌, ◌≢◌};
 ghost use Rattle.sheet.specs.Refusals.{Answers};
 ghost use Rattle.sheet.specs.declared.order.Order.TheVariants.{Free};

@@ -1,4 +1,6 @@
 // A sheet of pixels: its size, its places, the keys that its pixels hold, and how calls refuse.
+#![tactic(auto)]
+
 pub mod direction;
 pub mod key;
 pub mod order;

@@ -1,4 +1,6 @@
 // Sheets: an open sheet has no reading, and a settled sheet takes no strike.
+#![tactic(auto)]
+
 pub mod calls;
 mod held;
 mod open_sheet;

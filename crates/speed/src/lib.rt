@@ -1,4 +1,6 @@
 // Entry points for the benchmark in C, over sheets of 1024 by 1024 pixels.
+#![tactic(auto)]
+
 ghost use Rattle.std.specs.Prelude.{◌≡◌, ℕ, Bool, Result};
 ghost use Rattle.sheet.specs.declared.refusal.Refusal.{Refusal as Refused};
 ghost use Rattle.sheet.specs.Refusals.{Answers, passed};

@@ -1,4 +1,6 @@
 // The distance transform as mathematics: what a picture's settled image is, and the theorems that the orders come to it.
+#![tactic(auto)]
+
 ghost use Rattle.transform.specs.Examples.{Worked};
 ghost use Rattle.transform.specs.Raster.{ScansSettle};
 ghost use Rattle.transform.specs.Free.{StableSettles};

@@ -1,4 +1,6 @@
 // What the lines of a run list say, each by itself: the words of a line, its call, or its values.
+#![tactic(auto)]
+
 ghost use Rattle.words.specs.Words.{NumbersReadBack};
 
 pub mod call;

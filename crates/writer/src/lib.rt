@@ -1,4 +1,6 @@
 // Writes the answer to a run list.
+#![tactic(auto)]
+
 ghost use Rattle.std.specs.Prelude.{◌≡◌, IfOk, Some, string_bytes};
 ghost use Rattle.writer.specs.Answers.{answer_words, text_of};
 
