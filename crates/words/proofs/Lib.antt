@@ -1,4 +1,3 @@
 pub mod Parting
 pub mod Sorting
 pub mod Digits
-pub mod CallLines

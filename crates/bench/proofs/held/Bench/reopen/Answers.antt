@@ -11,14 +11,14 @@ returns-in-Open c = record {
   runs_on = reopen_goes_on c.args.self.now c.args.self.now c.args.keys.now c.args.keys.now (Err WrongState) (search rules);
 }
 
-pub returns-in_err-clear : goal.returns-in_err-clear
-returns-in_err-clear c = record {
+pub returns-in_err-clear-in-Settled : goal.returns-in_err-clear-in-Settled
+returns-in_err-clear-in-Settled c = record {
   answers = search rules;
   runs_on = reopen_goes_on c.args.self.now c.args.self.now c.args.keys.now c.clear.new.keys c.from_residual.result (search rules);
 }
 
-pub returns-in_ok-clear : goal.returns-in_ok-clear
-returns-in_ok-clear c = record {
+pub returns-in_ok-clear-in-Settled : goal.returns-in_ok-clear-in-Settled
+returns-in_ok-clear-in-Settled c = record {
   answers = search rules;
   runs_on = reopen_goes_on c.args.self.now (turned c.args.self.now Open) c.args.keys.now c.clear.new.keys (Ok tt) (search rules);
 }
