@@ -3,10 +3,10 @@ use Rattle.reader.proofs.Stepping.{line_next, room_next, unended_next, end_next}
 use Rattle.reader.proofs.lines.Reader.next.Goals as goal
 
 pub invariant_of-self : goal.invariant_of-self
-invariant_of-self c = (
-  room_next c.args.self.now.text.now c.args.self.now.at c.in-Some.line.now c.in-Some.field-0-1.now c.args.self.now.within c.in-Some.ensures,
-  (omega (arith, c.args.self.now.counted), tt),
-)
+invariant_of-self c = record {
+  within = room_next c.args.self.now.text.now c.args.self.now.at c.in-Some.line.now c.in-Some.field-0-1.now c.args.self.now.within c.in-Some.ensures;
+  counted = omega (arith, c.args.self.now.counted);
+}
 
 pub returns-in-Some : goal.returns-in-Some
 returns-in-Some c =
