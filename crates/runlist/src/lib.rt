@@ -74,7 +74,7 @@ fn outcome(size: Size, gave: Result<Given, Refusal>) -> Outcome
 
 // What a call of a list asks of a bench.
 fn asked<M: Metric>(metric: &M, call: Call) -> bench::Call<'_, M>
-    ensures { request_of model result ≡ request_in (M.model metric.now) call }
+    ensures { request_of M.model result ≡ request_in (M.model metric.now) call }
 {
     match call {
         Call::Strike { row, column } => bench::Call::Strike { row, column },
