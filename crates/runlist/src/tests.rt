@@ -1,21 +1,29 @@
 use crate::answer;
-use std::test::{Fail, assert_eq};
+use std::alloc::Global;
+use std::process::Abort;
+use std::test::Fail;
 
 // The text that a run list is answered with, but for its first line, must be this one.
-fn check_answer(rt: &HostRuntime, list: &str, lines: &str) -> Result<(), Fail> {
-    let reply = answer(rt.alloc(), list.as_bytes())?;
-    let text = format!(in rt.alloc(); "{reply}")?;
-    let wanted = format!(in rt.alloc(); "line,answer,distance,row,column\n{lines}")?;
-    assert_eq!(text.as_str(), wanted.as_str());
+fn check_answer(rt: &impl Abort, heap: Global, list: &str, lines: &str) -> Result<(), Fail> {
+    let reply = answer(heap, list.as_bytes())?;
+    let text = format!(in heap; "{reply}")?;
+    let wanted = format!(in heap; "line,answer,distance,row,column\n{lines}")?;
+    assert_eq!(rt; text.as_str(), wanted.as_str());
     Ok(())
 }
 
 // A list for a sheet of two by one, by the metric of a name.
-fn check_calls(rt: &HostRuntime, metric: &str, calls: &str, lines: &str) -> Result<(), Fail> {
-    let list = format!(in rt.alloc();
+fn check_calls(
+    rt: &impl Abort,
+    heap: Global,
+    metric: &str,
+    calls: &str,
+    lines: &str,
+) -> Result<(), Fail> {
+    let list = format!(in heap;
         "width,height,metric\n2,1,{metric}\ncall,row,column,order\n{calls}"
     )?;
-    check_answer(rt, list.as_str(), lines)
+    check_answer(rt, heap, list.as_str(), lines)
 }
 
 // Each call in the state that it does not want, and the two that are absent without air.
@@ -23,6 +31,7 @@ fn check_calls(rt: &HostRuntime, metric: &str, calls: &str, lines: &str) -> Resu
 fn wrong_states(rt: HostRuntime) -> Result<(), Fail> {
     check_calls(
         &rt,
+        rt.alloc(),
         "city",
         "r,0,0,-\np,0,0,-\no,0,0,-\nt,0,0,p\nr,0,1,-\np,0,0,-\ns,0,0,-\nu,0,0,-\nt,0,0,p\nr,1,0,-\n",
         "4,3,0,0,0\n5,3,0,0,0\n6,3,0,0,0\n7,0,1,0,0\n8,0,-,-,-\n9,0,-,-,-\n10,3,0,0,0\n11,3,0,0,0\n12,3,0,0,0\n13,4,0,0,0\n",
@@ -35,6 +44,7 @@ fn orders_by_metrics(rt: HostRuntime) -> Result<(), Fail> {
     let calls = "s,0,0,-\nt,0,0,p\no,0,0,-\nt,0,0,d\no,0,0,-\nt,0,0,r\no,0,0,-\nt,0,0,f\n";
     check_calls(
         &rt,
+        rt.alloc(),
         "city",
         calls,
         "4,0,0,0,0\n5,0,2,0,0\n6,0,0,0,0\n7,0,5,0,0\n8,0,0,0,0\n9,0,2,0,0\n10,0,0,0,0\n11,0,2,0,0\n",
@@ -42,6 +52,7 @@ fn orders_by_metrics(rt: HostRuntime) -> Result<(), Fail> {
     for metric in ["chess", "chamfer"] {
         check_calls(
             &rt,
+            rt.alloc(),
             metric,
             calls,
             "4,0,0,0,0\n5,0,2,0,0\n6,0,0,0,0\n7,5,0,0,0\n8,3,0,0,0\n9,0,2,0,0\n10,0,0,0,0\n11,0,2,0,0\n",
@@ -49,6 +60,7 @@ fn orders_by_metrics(rt: HostRuntime) -> Result<(), Fail> {
     }
     check_calls(
         &rt,
+        rt.alloc(),
         "euclid",
         calls,
         "4,0,0,0,0\n5,0,2,0,0\n6,0,0,0,0\n7,0,5,0,0\n8,0,0,0,0\n9,5,0,0,0\n10,3,0,0,0\n11,5,0,0,0\n",
@@ -58,8 +70,19 @@ fn orders_by_metrics(rt: HostRuntime) -> Result<(), Fail> {
 // A refused text, and a list without calls.
 #[test]
 fn faults(rt: HostRuntime) -> Result<(), Fail> {
-    check_answer(&rt, "", "1,7,0,0,0\n")?;
-    check_answer(&rt, "width,height,metric\n2,1,city\nrow\n", "3,7,0,0,0\n")?;
-    check_calls(&rt, "city", "r,0,0,-\nr,0,0\nx\n", "5,8,0,0,0\n")?;
-    check_calls(&rt, "city", "", "")
+    check_answer(&rt, rt.alloc(), "", "1,7,0,0,0\n")?;
+    check_answer(
+        &rt,
+        rt.alloc(),
+        "width,height,metric\n2,1,city\nrow\n",
+        "3,7,0,0,0\n",
+    )?;
+    check_calls(
+        &rt,
+        rt.alloc(),
+        "city",
+        "r,0,0,-\nr,0,0\nx\n",
+        "5,8,0,0,0\n",
+    )?;
+    check_calls(&rt, rt.alloc(), "city", "", "")
 }
