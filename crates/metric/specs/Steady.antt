@@ -1,6 +1,6 @@
 -- The laws of weights that do not change with the level, once for all weights: straight a and diagonal b with
 -- 1 ≤ a ≤ b ≤ 2 * a, where far takes a step of b for each of the lesser offset and one of a for each of the rest.
-use Rattle.std.specs.Prelude.{◌≡◌, ℕ, suc, ◌+◌, ◌-◌, ◌*◌, ◌<◌, ◌≤◌, min, max, Bool, true, ◌==◌, refl}
+use Rattle.std.specs.Prelude.{◌≡◌, ℕ, suc, ◌+◌, ◌-◌, ◌*◌, ◌<◌, ◌≤◌, min, max, Bool, true, false, ◌==◌, refl}
 use Rattle.std.proofs.Common.{sym, ap, subst, ◌∙◌, ⊎_elim, mul-add, add-mul, mul-one, mul-le-mul_left, arith}
 use Rattle.std.proofs.Math.Nat.{max-add-min}
 use Rattle.std.proofs.lemmas.Bool.{cases_order, cases_eq, cases_lt, eqb-true, eq-eqb}
@@ -9,7 +9,7 @@ use Rattle.sheet.specs.Pixels.{apart, weight_of}
 use Rattle.sheet.proofs.Weights.{weight_straight, weight_diagonal}
 use Rattle.metric.specs.Model.{at_level, at_offset}
 use Rattle.metric.specs.Laws.{Lawful, Reached, Parted}
-use Rattle.metric.specs.Metrics.{steady_model}
+use Rattle.metric.specs.Metrics.{steady_model, city_block, chessboard, chamfer}
 use Rattle.metric.specs.Bounds.{level_in, level_out, level_bound, offset_in, offset_out, offset_bound}
 
 -- a product with one more, and with at most as much
@@ -166,3 +166,13 @@ module _ (a b : ℕ) (f : ℕ → ℕ → ℕ) (s : Bool) (positive : 1 ≤ a) (
       let e : a + (b - a) ≡ b = omega arith in
       subst (λ (d : ℕ). Lawful (steady_model a d f s)) e
       (lawful a (b - a) f s positive (omega arith) (omega arith) (splits ∙ halves a b rising) (λ g l h. far-is g l h ∙ regrouped a b g l rising h))
+
+-- the metrics whose weights do not change
+pub city_block_lawful : Lawful city_block
+city_block_lawful = steady_lawful 1 2 (λ g l. g + l) true (omega arith) (omega arith) (omega arith) (omega arith) refl (λ g l h. omega arith)
+
+pub chessboard_lawful : Lawful chessboard
+chessboard_lawful = steady_lawful 1 1 (λ g l. g) false (omega arith) (omega arith) (omega arith) (omega arith) refl (λ g l h. omega arith)
+
+pub chamfer_lawful : Lawful chamfer
+chamfer_lawful = steady_lawful 3 4 (λ g l. 3 * g + l) false (omega arith) (omega arith) (omega arith) (omega arith) refl (λ g l h. omega arith)

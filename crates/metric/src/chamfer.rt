@@ -1,8 +1,6 @@
 // The chamfer with weights 3 and 4.
 ghost use Rattle.metric.specs.Metrics.{chamfer};
-ghost use Rattle.std.specs.Prelude.{◌+◌, ◌*◌, false, refl};
-ghost use Rattle.std.proofs.Common.{arith};
-ghost use Rattle.metric.specs.Steady.{steady_lawful};
+ghost use Rattle.metric.specs.Steady.{chamfer_lawful};
 
 use crate::Metric;
 use crate::ranges::{at_every_level, by_greater_and_lesser};
@@ -17,7 +15,7 @@ pub struct Chamfer;
 impl Metric for Chamfer {
     ghost model = { λ _. chamfer };
 
-    ghost lawful = { λ m. steady_lawful 3 4 (λ g l. 3 * g + l) false (omega arith) (omega arith) (omega arith) (omega arith) refl (λ g l h. omega arith) };
+    ghost lawful = { λ _. chamfer_lawful };
 
     fn straight(&self, level: u32) -> u32 {
         at_every_level(level, STRAIGHT)

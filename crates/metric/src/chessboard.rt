@@ -1,7 +1,5 @@
 ghost use Rattle.metric.specs.Metrics.{chessboard};
-ghost use Rattle.std.specs.Prelude.{false, refl};
-ghost use Rattle.std.proofs.Common.{arith};
-ghost use Rattle.metric.specs.Steady.{steady_lawful};
+ghost use Rattle.metric.specs.Steady.{chessboard_lawful};
 
 use crate::Metric;
 use crate::ranges::{at_every_level, by_greater_and_lesser};
@@ -16,7 +14,7 @@ pub struct Chessboard;
 impl Metric for Chessboard {
     ghost model = { λ _. chessboard };
 
-    ghost lawful = { λ m. steady_lawful 1 1 (λ g l. g) false (omega arith) (omega arith) (omega arith) (omega arith) refl (λ g l h. omega arith) };
+    ghost lawful = { λ _. chessboard_lawful };
 
     fn straight(&self, level: u32) -> u32 {
         at_every_level(level, STRAIGHT)

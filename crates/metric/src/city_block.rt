@@ -1,8 +1,5 @@
 ghost use Rattle.metric.specs.Metrics.{city_block};
-ghost use Rattle.std.proofs.Math.Bool;
-ghost use Rattle.std.specs.Prelude.{◌+◌, refl};
-ghost use Rattle.std.proofs.Common.{arith};
-ghost use Rattle.metric.specs.Steady.{steady_lawful};
+ghost use Rattle.metric.specs.Steady.{city_block_lawful};
 
 use crate::Metric;
 use crate::ranges::{at_every_level, by_greater_and_lesser};
@@ -17,7 +14,7 @@ pub struct CityBlock;
 impl Metric for CityBlock {
     ghost model = { λ _. city_block };
 
-    ghost lawful = { λ m. steady_lawful 1 2 (λ g l. g + l) Bool.true (omega arith) (omega arith) (omega arith) (omega arith) refl (λ g l h. omega arith) };
+    ghost lawful = { λ _. city_block_lawful };
 
     fn straight(&self, level: u32) -> u32 {
         at_every_level(level, STRAIGHT)

@@ -10,7 +10,7 @@ pub struct SquaredEuclidean;
 impl Metric for SquaredEuclidean {
     ghost model = { λ _. squared_euclidean };
 
-    ghost lawful = { λ m. squared_lawful };
+    ghost lawful = { λ _. squared_lawful };
 
     fn straight(&self, level: u32) -> u32 {
         if is_level(level) { 2 * level - 1 } else { 0 }
