@@ -1,6 +1,6 @@
 -- What the benchmark is told in one number.
 use Rattle.std.specs.Prelude.{ℕ, ◌+◌, ◌-◌, Bool, true, false, Ok, Err, Result}
-use Rattle.std.proofs.Common.{arith}
+use Rattle.std.proofs.Common.{lit≤}
 use Rattle.sheet.specs.declared.refusal.Refusal.{Refusal}
 use Rattle.sheet.specs.declared.size.Size.{Size}
 use Rattle.sheet.specs.Keys.{blank}
@@ -8,7 +8,7 @@ use Rattle.sheet.specs.Refusals.{number_of}
 
 -- the greatest sheet
 abbrev pub full : Size
-full = record { width = 1024; height = 1024; columns = omega arith; wide = omega arith; rows = omega arith; tall = omega arith }
+full = record { width = 1024; height = 1024; columns = lit≤ tt; wide = lit≤ tt; rows = lit≤ tt; tall = lit≤ tt }
 
 -- 0 for a round that altered nothing, 1 for one that did, and one more than its number for a refusal
 abbrev pub code_of : Result Bool Refusal → ℕ
