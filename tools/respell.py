@@ -4,7 +4,8 @@
 usage: python3 tools/respell.py [FOLDER]     once, in the top of the repository (or of FOLDER)
 
 The rows of respell.tsv beside this file are 'old, a tab, new'. A name turns where it stands as a whole word: in the code of .antt files, in what is
-neither comment nor string of .rt files (only clauses and ghost items have such names there), and in the code spans of README.md and docs/.
+neither comment nor string of .rt files (only clauses and ghost items have such names there), and in the code spans of README.md and docs/, but for
+docs/PORT.md, which quotes older names.
 A second run changes nothing.
 """
 
@@ -54,7 +55,7 @@ def main(top):
     table = rows()
     for path in files(top):
         kind = os.path.splitext(path)[1]
-        if kind not in (".antt", ".rt", ".md"):
+        if kind not in (".antt", ".rt", ".md") or os.path.basename(path) == "PORT.md":
             continue
         with open(path, encoding="utf-8") as f:
             text = f.read()

@@ -15,7 +15,7 @@ use Rattle.bench.specs.declared.held.State.{State}
 use Rattle.bench.specs.declared.held.State.TheVariants.{Open, Settled}
 use Rattle.bench.specs.Calls.{Request, request_of, Scene, scene, differ, in_state, wants, sheet_refusal, refusal_of, Does, Answered, by_free, may_use_front, uses_front}
 use Rattle.bench.specs.Runs.{LawfulCall}
-use Rattle.bench.specs.Laws.{Goes_on}
+use Rattle.bench.specs.Laws.{GoesOn}
 use Rattle.bench.proofs.RunLaw.{goes_on}
 
 same_state : (state : State) → differ state state ≡ false
@@ -61,7 +61,7 @@ module _ {M F : Type 0} (e : Entry M F) where
   pub record Ends (bench : Bench) (picture keys spare : List ℕ) (front : F) (result : Result Answer Refusal) : Type 0 where
     pub answered : Answered before asked (after bench picture keys spare front) result
     pub untouched : uses_front asked result ≡ false → front ≡ e.front
-    pub runs_on : Goes_on before asked (after bench picture keys spare front) result
+    pub runs_on : GoesOn before asked (after bench picture keys spare front) result
 
   lawful_call : (call : Call M) → LawfulCall (request_of e.model call)
   lawful_call (Strike row column) = tt

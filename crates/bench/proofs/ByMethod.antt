@@ -14,12 +14,12 @@ use Rattle.bench.specs.declared.held.Bench.{Bench}
 use Rattle.bench.specs.declared.held.State.TheVariants.{Open, Settled}
 use Rattle.bench.specs.Calls.{Request, strikes, restores, settles, reads, peaks, reopens, Scene, scene, turned, in_state, refusal_of, answering, Does}
 use Rattle.bench.specs.Runs.{LawfulCall}
-use Rattle.bench.specs.Laws.{Goes_on, PictureGoesOn, KeysGoOn}
+use Rattle.bench.specs.Laws.{GoesOn, PictureGoesOn, KeysGoOn}
 use Rattle.bench.proofs.RunLaw.{goes_on}
 
 -- a method that refuses as is due, leaves all as it was where it does, and else does what the call is to do
 by_method : {A : Type 0} (answer : A → Answer) (s : Scene) (request : Request) (t : Scene) {kept : Type 0} {given : A → Type 0} (result : Result A Refusal) → LawfulCall request →
-    Answers (refusal_of s request) kept given result → (kept → t ≡ s) → ((x : A) → given x → Does s request t (answer x)) → Goes_on s request t (answering answer result)
+    Answers (refusal_of s request) kept given result → (kept → t ≡ s) → ((x : A) → given x → Does s request t (answer x)) → GoesOn s request t (answering answer result)
 by_method answer s request t (Ok x) law a same does = goes_on s request t (Ok (answer x)) law (a.0, does x a.1)
 by_method answer s request t (Err refusal) law a same does = goes_on s request t (Err refusal) law (a.0, same a.1)
 
@@ -58,7 +58,7 @@ pub settle_goes_on : {F : Type 0} (waits : F → List Bool) (tally : F → ℕ) 
     ((b' ≡ b) × (keys' ≡ keys) × (spare' ≡ spare) × (front' ≡ front))
     (λ count. (b' ≡ turned b Settled) × Settles m b.size picture keys keys' spare spare' × Counts order m b.size picture count × LeavesFront order count (waits front) (tally front) (waits front') (tally front'))
     result →
-    Goes_on (scene b picture keys spare (waits front) (tally front)) (settles m order) (scene b' picture keys' spare' (waits front') (tally front')) (answering Counted result)
+    GoesOn (scene b picture keys spare (waits front) (tally front)) (settles m order) (scene b' picture keys' spare' (waits front') (tally front')) (answering Counted result)
 settle_goes_on waits tally m law order b b' picture keys keys' spare spare' front front' result a =
     by_method Counted _ (settles m order) _ result law a
     (λ e i. scene (e.0 i) picture (e.1 i) (e.2 i) (waits (e.3 i)) (tally (e.3 i)))

@@ -15,7 +15,7 @@ use Rattle.bench.specs.declared.held.State.TheVariants.{Open}
 use Rattle.bench.specs.Truth.{ReadingTrue, PeakTrue}
 use Rattle.bench.specs.Calls.{Request, settles, reads, peaks, Scene, refusal_of, GivesReading, GivesPeak, Answered}
 use Rattle.bench.specs.Runs.{Event, event, LawfulCall, Run, opened, called, present, latest, state_after, By, GivenTrue, AllTrue}
-use Rattle.bench.specs.Laws.{RunsAreTrue, RunsAgree, RunsCount, RunLaw, Goes_on}
+use Rattle.bench.specs.Laws.{RunsAreTrue, RunsAgree, RunsCount, RunLaw, GoesOn}
 use Rattle.bench.proofs.Alike.{same_reading, same_peak}
 use Rattle.bench.proofs.Steps.{Holds, not_both, step, true_now}
 
@@ -39,7 +39,7 @@ runs_are_true size start es bench picture keys run =
     record { calls = run_calls size start es bench picture keys run; state = holds.bench_is; present_picture = holds.picture_is }
 
 -- a run goes on with every call
-pub goes_on : (s : Scene) (request : Request) (t : Scene) (result : Result Answer Refusal) → LawfulCall request → Answered s request t result → Goes_on s request t result
+pub goes_on : (s : Scene) (request : Request) (t : Scene) (result : Result Answer Refusal) → LawfulCall request → Answered s request t result → GoesOn s request t result
 goes_on s request t result law a size start es picture keys picture' keys' run pictures all-keys =
     let holds = run_holds size start es s.bench picture keys run in (
       record { bench = holds.bench_is; answer = true_now size _ _ _ s t picture keys picture' keys' holds pictures all-keys request result a },

@@ -64,8 +64,8 @@ pub record RunLaw : Type 0 where
   pub counts : RunsCount
 
 -- wherever a run ends at the bench that a call finds, the call is true, and the run goes on to what it leaves
-abbrev pub Goes_on : Scene → Request → Scene → Result Answer Refusal → Type 0
-Goes_on s request t result =
+abbrev pub GoesOn : Scene → Request → Scene → Result Answer Refusal → Type 0
+GoesOn s request t result =
     (size : Size) (start : List ℕ) (es : List Event) (picture keys picture' keys' : List ℕ) →
     Run size start es s.bench picture keys →
     Keeps (size.width * size.height) picture s.picture t.picture picture' →
@@ -75,9 +75,9 @@ Goes_on s request t result =
 -- so it is with a call that needs the picture alone, whatever else there is
 abbrev pub PictureGoesOn : Bench → Request → List ℕ → List ℕ → Result Answer Refusal → Type 0
 PictureGoesOn b request picture picture' result =
-    (keys spare : List ℕ) (waits : List Bool) (tally : ℕ) → Goes_on (scene b picture keys spare waits tally) request (scene b picture' keys spare waits tally) result
+    (keys spare : List ℕ) (waits : List Bool) (tally : ℕ) → GoesOn (scene b picture keys spare waits tally) request (scene b picture' keys spare waits tally) result
 
 -- and with one that needs the keys alone
 abbrev pub KeysGoOn : Bench → Request → List ℕ → Bench → List ℕ → Result Answer Refusal → Type 0
 KeysGoOn b request keys b' keys' result =
-    (picture spare : List ℕ) (waits : List Bool) (tally : ℕ) → Goes_on (scene b picture keys spare waits tally) request (scene b' picture keys' spare waits tally) result
+    (picture spare : List ℕ) (waits : List Bool) (tally : ℕ) → GoesOn (scene b picture keys spare waits tally) request (scene b' picture keys' spare waits tally) result

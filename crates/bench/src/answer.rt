@@ -1,6 +1,6 @@
 ghost use Rattle.std.specs.Prelude.{◌≡◌, false};
 ghost use Rattle.bench.specs.Calls.{request_of, scene, Answered, uses_front};
-ghost use Rattle.bench.specs.Laws.{Goes_on};
+ghost use Rattle.bench.specs.Laws.{GoesOn};
 
 use crate::held::{Answer, Bench, Call, State};
 use front::Front;
@@ -24,7 +24,7 @@ impl Bench {
             (scene self.new picture.new keys.new spare.new (F.waits front.new) (F.tally front.new))
             result }
         ensures untouched { uses_front (request_of M.model call.entry) result ≡ false → front.new ≡ front.old }
-        ensures runs_on { Goes_on
+        ensures runs_on { GoesOn
             (scene self.old picture.old keys.old spare.old (F.waits front.old) (F.tally front.old))
             (request_of M.model call.entry)
             (scene self.new picture.new keys.new spare.new (F.waits front.new) (F.tally front.new))

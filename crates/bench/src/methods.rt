@@ -8,7 +8,7 @@ ghost use Rattle.bench.specs.declared.held.Answer.TheVariants.{Done, Counted, Re
 ghost use Rattle.bench.specs.declared.held.State.TheVariants.{Open, Settled};
 ghost use Rattle.bench.specs.Calls.{strikes, restores, settles, reads, peaks, reopens, scene, turned, in_state, answering};
 ghost use Rattle.bench.specs.Runs.{Run};
-ghost use Rattle.bench.specs.Laws.{Goes_on, PictureGoesOn, KeysGoOn};
+ghost use Rattle.bench.specs.Laws.{GoesOn, PictureGoesOn, KeysGoOn};
 
 use crate::held::{Bench, State};
 use front::Front;
@@ -87,7 +87,7 @@ impl Bench {
             × Counts order (M.model metric.now) self.old.size picture.now count
             × LeavesFront order count (F.waits front.old) (F.tally front.old) (F.waits front.new) (F.tally front.new))
             result }
-        ensures runs_on { Goes_on
+        ensures runs_on { GoesOn
             (scene self.old picture.now keys.old spare.old (F.waits front.old) (F.tally front.old))
             (settles (M.model metric.now) order)
             (scene self.new picture.now keys.new spare.new (F.waits front.new) (F.tally front.new))

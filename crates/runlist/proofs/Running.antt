@@ -14,7 +14,7 @@ use Rattle.bench.specs.declared.held.Answer.{Answer as GivenAnswer}
 use Rattle.bench.specs.declared.held.Bench.{Bench}
 use Rattle.bench.specs.Calls.{Request, Scene}
 use Rattle.bench.specs.Runs.{Run, event, finds_all}
-use Rattle.bench.specs.Laws.{Goes_on}
+use Rattle.bench.specs.Laws.{GoesOn}
 use Rattle.reader.specs.declared.list.Entry.{Entry}
 use Rattle.writer.specs.declared.answer.Answer.{Answer}
 use Rattle.runlist.specs.Answering.{request_in, outcome_of, AnsweredInTurn, none, next, carbon, Running}
@@ -36,7 +36,7 @@ running_none m size bench picture keys wide high is run =
 
 -- one more call, with its answer
 pub running_next : (w h : ℕ) (m : Model) (entries : List Entry) (answers : List Answer) (s t : Scene) (request : Request) (result : Result GivenAnswer Refusal) (entry : Entry) (answer : Answer) →
-    Running w h m entries answers s.bench s.picture s.keys → Goes_on s request t result → request ≡ request_in m entry.call → answer ≡ record { line = entry.line; outcome = outcome_of w result } →
+    Running w h m entries answers s.bench s.picture s.keys → GoesOn s request t result → request ≡ request_in m entry.call → answer ≡ record { line = entry.line; outcome = outcome_of w result } →
     Running w h m (entries ++ entry ∷ []) (answers ++ answer ∷ []) t.bench t.picture t.keys
 running_next w h m entries answers s t request result entry answer r goes asks is =
     let on = goes r.size (carbon r.size) r.events s.picture s.keys t.picture t.keys r.run finds_all finds_all in
