@@ -4,5 +4,3 @@ pub mod Alike
 pub mod Passed
 pub mod Steps
 pub mod RunLaw
-pub mod Arms
-pub mod ByMethod

@@ -1,42 +1,30 @@
 -- What is known of a call to which no refusal is due.
-use Rattle.std.proofs.Common.{◌≡◌, ℕ, ◌<◌, Bool, true, false, ◌||◌, leb, List, Some, None, Option, refl, arith}
+use Rattle.std.proofs.Common.{◌≡◌, ℕ, ◌<◌, Bool, ◌||◌, leb, List, None, Option, sym, refl, arith}
 use Rattle.std.proofs.lemmas.Bool.Decides.{nat_tests}
+use Rattle.std.proofs.lemmas.Option.{none-some}
 use Rattle.sheet.specs.declared.order.Order.{Order}
 use Rattle.sheet.specs.declared.refusal.Refusal.{Refusal}
 use Rattle.sheet.specs.declared.refusal.Refusal.TheVariants.{OutOfRange}
 use Rattle.sheet.specs.declared.size.Size.{Size}
-use Rattle.sheet.specs.Refusals.{check, passed}
+use Rattle.sheet.specs.Refusals.{passed}
 use Rattle.metric.specs.Model.{Model}
-use Rattle.erosion.specs.Memory.{Fits, On, needs_memory}
+use Rattle.erosion.specs.Memory.{Fits, On}
 use Rattle.settling.specs.Orders.{settle_refusal}
 use Rattle.sheets.specs.Calls.{pixel_refusal}
-use Rattle.sheets.proofs.Checks.{long_enough}
+use Rattle.sheets.proofs.Checks.{check_passed, memory_passed}
 use Rattle.bench.specs.declared.held.State.{State}
 use Rattle.bench.specs.declared.held.State.TheVariants.{Open, Settled}
 use Rattle.bench.specs.Calls.{Request, Scene, in_state, wants, sheet_refusal, refusal_of}
 
--- some refusal is not none
-some_none : (refusal : Refusal) → Some refusal ≡ None → ⊥
-some_none refusal e = let z : ◌≡◌ {A = ℕ} 0 1 = cc in omega arith
-
--- the check has not failed, and the rest has passed
-pub check_passed : (fails : Bool) (refusal : Refusal) (rest : Option Refusal) → check fails refusal rest ≡ None → (fails ≡ false) × (rest ≡ None)
-check_passed true refusal rest e = absurd (some_none refusal e)
-check_passed false refusal rest e = (refl, e)
-
 state_passed : (wanted state : State) (rest : Option Refusal) → in_state wanted state rest ≡ None → (state ≡ wanted) × (rest ≡ None)
 state_passed Open Open rest e = (refl, e)
-state_passed Open Settled rest e = absurd (some_none _ e)
-state_passed Settled Open rest e = absurd (some_none _ e)
+state_passed Open Settled rest e = absurd (none-some _ (sym e))
+state_passed Settled Open rest e = absurd (none-some _ (sym e))
 state_passed Settled Settled rest e = (refl, e)
 
 -- the bench is in the state that the call wants, and the same call on a sheet is not refused
 pub call_passed : (s : Scene) (request : Request) → refusal_of s request ≡ None → (s.bench.state ≡ wants request) × (sheet_refusal s request ≡ None)
 call_passed s request e = state_passed (wants request) s.bench.state (sheet_refusal s request) e
-
--- the memory is long enough
-pub memory_passed : (size : Size) (memory : List ℕ) (rest : Option Refusal) → needs_memory size memory rest ≡ None → Fits size memory × (rest ≡ None)
-memory_passed size memory rest e = let p = check_passed _ _ rest e in (long_enough _ _ p.0, p.1)
 
 -- the memory is long enough, and the pixel is on the sheet
 pub pixel_passed : (size : Size) (memory : List ℕ) (row column : ℕ) → pixel_refusal size memory row column ≡ None → Fits size memory × On size row column

@@ -1,7 +1,7 @@
 -- The calls of a bench: what each asks, when it is refused, and what it does and gives.
 use Rattle.std.specs.Prelude.{◌≡◌, ℕ, ◌*◌, Bool, true, false, List, Ok, Err, Option, Result}
 use Rattle.sheet.specs.declared.order.Order.{Order}
-use Rattle.sheet.specs.declared.order.Order.TheVariants.{Parallel, Directional, Raster, Free}
+use Rattle.sheet.specs.declared.order.Order.TheVariants.{Free}
 use Rattle.sheet.specs.declared.refusal.Refusal.{Refusal}
 use Rattle.sheet.specs.declared.refusal.Refusal.TheVariants.{WrongState}
 use Rattle.sheet.specs.declared.size.Size.{Size}
@@ -67,10 +67,9 @@ turned bench state = bench_of bench.size state
 
 -- two states are not the same
 abbrev pub differ : State → State → Bool
-differ Open Open = false
 differ Open Settled = true
 differ Settled Open = true
-differ Settled Settled = false
+differ _ _ = false
 
 -- the refusal of a call that wants a state: first for the state, then by the rest
 abbrev pub in_state : State → State → Option Refusal → Option Refusal
@@ -98,24 +97,9 @@ sheet_refusal s reopens = memory_refusal s.bench.size s.keys
 abbrev pub refusal_of : Scene → Request → Option Refusal
 refusal_of s request = in_state (wants request) s.bench.state (sheet_refusal s request)
 
--- the value of an answer: it is a count, a reading or a peak, of which P holds
-abbrev pub GivesCount : Answer → (ℕ → Type 0) → Type 0
-GivesCount Done P = ⊥
-GivesCount (Counted count) P = P count
-GivesCount (Reading reading) P = ⊥
-GivesCount (Highest peak) P = ⊥
-
-abbrev pub GivesReading : Answer → (Option (ℕ × ℕ) → Type 0) → Type 0
-GivesReading Done P = ⊥
-GivesReading (Counted count) P = ⊥
-GivesReading (Reading reading) P = P reading
-GivesReading (Highest peak) P = ⊥
-
-abbrev pub GivesPeak : Answer → (Option (ℕ × ℕ) → Type 0) → Type 0
-GivesPeak Done P = ⊥
-GivesPeak (Counted count) P = ⊥
-GivesPeak (Reading reading) P = ⊥
-GivesPeak (Highest peak) P = P peak
+-- an answer is a value of this kind, as Counted or Reading, of which P holds
+abbrev pub Gives : {A : Type 0} → (A → Answer) → Answer → (A → Type 0) → Type 0
+Gives {A} kind answer P = (value : A) × ((answer ≡ kind value) × P value)
 
 -- the answer that a result stands for
 abbrev pub answering : {A : Type 0} → (A → Answer) → Result A Refusal → Result Answer Refusal
@@ -134,9 +118,9 @@ pub record Settling (m : Model) (order : Order) (before after : Scene) (count : 
 abbrev pub Does : Scene → Request → Scene → Answer → Type 0
 Does s (strikes row column) t answer = (answer ≡ Done) × (t ≡ with_picture s (marked s.bench.size s.picture row column 0))
 Does s (restores row column) t answer = (answer ≡ Done) × (t ≡ with_picture s (marked s.bench.size s.picture row column 1))
-Does s (settles m order) t answer = GivesCount answer (Settling m order s t)
-Does s (reads row column) t answer = GivesReading answer (λ reading. reading ≡ reading_at s.bench.size s.keys row column) × (t ≡ s)
-Does s peaks t answer = GivesPeak answer (λ peak. peak ≡ peak_of (s.bench.size.width * s.bench.size.height) s.keys) × (t ≡ s)
+Does s (settles m order) t answer = Gives Counted answer (Settling m order s t)
+Does s (reads row column) t answer = (answer ≡ Reading (reading_at s.bench.size s.keys row column)) × (t ≡ s)
+Does s peaks t answer = (answer ≡ Highest (peak_of (s.bench.size.width * s.bench.size.height) s.keys)) × (t ≡ s)
 Does s reopens t answer = (answer ≡ Done) × (t ≡ with_keys (with_bench s (turned s.bench Open)) (blanked s.bench.size s.keys))
 
 -- a call: it is refused exactly as is due, and then leaves all as it was; else it does what it is to do
@@ -145,18 +129,12 @@ Answered s request t result = Answers (refusal_of s request) (t ≡ s) (Does s r
 
 -- whether a call used the front: only an accepted settling by the free order does
 abbrev pub by_free : Order → Bool
-by_free Parallel = false
-by_free Directional = false
-by_free Raster = false
 by_free Free = true
+by_free _ = false
 
 abbrev pub may_use_front : Request → Bool
-may_use_front (strikes row column) = false
-may_use_front (restores row column) = false
 may_use_front (settles m order) = by_free order
-may_use_front (reads row column) = false
-may_use_front peaks = false
-may_use_front reopens = false
+may_use_front _ = false
 
 abbrev pub uses_front : Request → Result Answer Refusal → Bool
 uses_front request (Ok answer) = may_use_front request

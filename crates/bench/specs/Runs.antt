@@ -1,5 +1,5 @@
 -- Runs of a bench: it is newly opened over a picture, and then any list of calls is made, refused ones included.
-use Rattle.std.specs.Prelude.{◌≡◌, ℕ, ◌*◌, ◌<◌, List, [], ◌∷◌, length, Some, None, Ok, Err, Option, Result}
+use Rattle.std.specs.Prelude.{◌≡◌, ℕ, ◌*◌, ◌<◌, List, [], ◌∷◌, length, Some, None, IsSomeAnd, Ok, Err, Option, Result}
 use Rattle.sheet.specs.declared.refusal.Refusal.{Refusal}
 use Rattle.sheet.specs.declared.size.Size.{Size}
 use Rattle.sheet.specs.Images.{image_of}
@@ -9,12 +9,12 @@ use Rattle.metric.specs.Laws.{Lawful}
 use Rattle.settling.specs.Orders.{Counts, LeavesFront}
 use Rattle.sheets.specs.Calls.{open_refusal, marked, blanked}
 use Rattle.bench.specs.declared.held.Answer.{Answer}
-use Rattle.bench.specs.declared.held.Answer.TheVariants.{Done}
+use Rattle.bench.specs.declared.held.Answer.TheVariants.{Done, Counted, Reading, Highest}
 use Rattle.bench.specs.declared.held.Bench.{Bench}
 use Rattle.bench.specs.declared.held.State.{State}
 use Rattle.bench.specs.declared.held.State.TheVariants.{Open, Settled}
 use Rattle.bench.specs.Truth.{ReadingTrue, PeakTrue}
-use Rattle.bench.specs.Calls.{Request, strikes, restores, settles, reads, peaks, reopens, Scene, bench_of, refusal_of, GivesCount, GivesReading, GivesPeak, Answered}
+use Rattle.bench.specs.Calls.{Request, strikes, restores, settles, reads, peaks, reopens, Scene, bench_of, refusal_of, Gives, Answered}
 
 -- a call as it happened: what it asked, what it found, what it gave and what it left
 pub record Event : Type 0 where
@@ -35,12 +35,8 @@ pub data Keeps (n : ℕ) : List ℕ → List ℕ → List ℕ → List ℕ → T
 
 -- the metric of a settling keeps the five laws and tells truly
 abbrev pub LawfulCall : Request → Type 0
-LawfulCall (strikes row column) = Unit {0}
-LawfulCall (restores row column) = Unit {0}
 LawfulCall (settles m order) = Lawful m
-LawfulCall (reads row column) = Unit {0}
-LawfulCall peaks = Unit {0}
-LawfulCall reopens = Unit {0}
+LawfulCall _ = Unit {0}
 
 -- a bench of this size was opened over the picture start; these calls happened, the latest first; and now bench, picture and keys are
 -- these. Spare and front are free at each call
@@ -63,10 +59,7 @@ accepted (Err refusal) change x = x
 abbrev pub edited : Size → Request → List ℕ → List ℕ
 edited size (strikes row column) picture = marked size picture row column 0
 edited size (restores row column) picture = marked size picture row column 1
-edited size (settles m order) picture = picture
-edited size (reads row column) picture = picture
-edited size peaks picture = picture
-edited size reopens picture = picture
+edited size _ picture = picture
 
 -- the present picture: the opening's with every accepted strike and restore done in turn
 abbrev pub present : Size → List ℕ → List Event → List ℕ
@@ -75,12 +68,8 @@ present size start (e ∷ es) = accepted e.gave (edited size e.call) (present si
 
 -- a settling's metric takes the place of the former one
 abbrev pub settled_with : Request → Option Model → Option Model
-settled_with (strikes row column) former = former
-settled_with (restores row column) former = former
 settled_with (settles m order) former = Some m
-settled_with (reads row column) former = former
-settled_with peaks former = former
-settled_with reopens former = former
+settled_with _ former = former
 
 -- the metric of the latest settling
 abbrev pub latest : List Event → Option Model
@@ -89,33 +78,25 @@ latest (e ∷ es) = accepted e.gave (settled_with e.call) (latest es)
 
 -- a settling leaves the bench settled, a reopening leaves it open
 abbrev pub state_with : Request → State → State
-state_with (strikes row column) former = former
-state_with (restores row column) former = former
 state_with (settles m order) former = Settled
-state_with (reads row column) former = former
-state_with peaks former = former
 state_with reopens former = Open
+state_with _ former = former
 
 -- the present state: open at first, and then as the accepted calls left it
 abbrev pub state_after : List Event → State
 state_after [] = Open
 state_after (e ∷ es) = accepted e.gave (state_with e.call) (state_after es)
 
--- there is a metric, and P holds of it
-abbrev pub By : Option Model → (Model → Type 0) → Type 0
-By None P = ⊥
-By (Some m) P = P m
-
 -- what a call gave is true of a picture, by the metric of the latest settling
 abbrev pub GivenTrue : Size → List ℕ → Option Model → Scene → Request → Scene → Answer → Type 0
 GivenTrue size picture metric s (strikes row column) t answer = answer ≡ Done
 GivenTrue size picture metric s (restores row column) t answer = answer ≡ Done
 GivenTrue size picture metric s (settles m order) t answer =
-    GivesCount answer (λ count. Counts order m size picture count × LeavesFront order count s.waits s.tally t.waits t.tally)
+    Gives Counted answer (λ count. Counts order m size picture count × LeavesFront order count s.waits s.tally t.waits t.tally)
 GivenTrue size picture metric s (reads row column) t answer =
-    GivesReading answer (λ reading. By metric (λ m. ReadingTrue m size.height size.width (image_of size.width picture) row column reading))
+    Gives Reading answer (λ reading. IsSomeAnd metric (λ m. ReadingTrue m size.height size.width (image_of size.width picture) row column reading))
 GivenTrue size picture metric s peaks t answer =
-    GivesPeak answer (λ peak. By metric (λ m. PeakTrue m size.height size.width (image_of size.width picture) peak))
+    Gives Highest answer (λ peak. IsSomeAnd metric (λ m. PeakTrue m size.height size.width (image_of size.width picture) peak))
 GivenTrue size picture metric s reopens t answer = answer ≡ Done
 
 -- a call that came after these is true: the bench was as they left it, it is refused by the table alone, a refused call leaves all as it

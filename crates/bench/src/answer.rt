@@ -2,14 +2,14 @@ ghost use Rattle.std.specs.Prelude.{◌≡◌, false};
 ghost use Rattle.bench.specs.Calls.{request_of, scene, Answered, uses_front};
 ghost use Rattle.bench.specs.Laws.{GoesOn};
 
-use crate::held::{Answer, Bench, Call, State};
+use crate::held::{Answer, Bench, Call};
 use front::Front;
 use metric::Metric;
 use sheet::refusal::Refusal;
-use sheets::calls;
 
 impl Bench {
-    // Answers any call, by the bench's state and the call together.
+    // Answers any call, as the method of its name does. What it found and left is written out in each clause: a shorter name would
+    // have to take the same memory.
     pub fn answer<M: Metric, F: Front>(
         &mut self,
         call: Call<M>,
@@ -30,41 +30,19 @@ impl Bench {
             (scene self.new picture.new keys.new spare.new (F.waits front.new) (F.tally front.new))
             result }
     {
-        match (self.state, call) {
-            (State::Open, Call::Strike { row, column }) => {
-                calls::mark(self.size, row, column, calls::AIR, picture)?;
-                Ok(Answer::Done)
+        match call {
+            Call::Strike { row, column } => {
+                self.strike(row, column, picture).map(|()| Answer::Done)
             }
-            (State::Open, Call::Restore { row, column }) => {
-                calls::mark(self.size, row, column, calls::CARBON, picture)?;
-                Ok(Answer::Done)
+            Call::Restore { row, column } => {
+                self.restore(row, column, picture).map(|()| Answer::Done)
             }
-            (State::Open, Call::Settle { metric, order }) => {
-                let count = settling::settle(
-                    self.size, metric, order, picture, keys, spare, front,
-                )?;
-                self.state = State::Settled;
-                Ok(Answer::Counted(count))
-            }
-            (State::Open, Call::Read { .. }) => Err(Refusal::WrongState),
-            (State::Open, Call::Peak) => Err(Refusal::WrongState),
-            (State::Open, Call::Reopen) => Err(Refusal::WrongState),
-            (State::Settled, Call::Strike { .. }) => Err(Refusal::WrongState),
-            (State::Settled, Call::Restore { .. }) => Err(Refusal::WrongState),
-            (State::Settled, Call::Settle { .. }) => Err(Refusal::WrongState),
-            (State::Settled, Call::Read { row, column }) => {
-                let reading = calls::read(self.size, row, column, keys)?;
-                Ok(Answer::Reading(reading))
-            }
-            (State::Settled, Call::Peak) => {
-                let peak = calls::peak(self.size, keys)?;
-                Ok(Answer::Highest(peak))
-            }
-            (State::Settled, Call::Reopen) => {
-                calls::clear(self.size, keys)?;
-                self.state = State::Open;
-                Ok(Answer::Done)
-            }
+            Call::Settle { metric, order } => self
+                .settle(metric, order, picture, keys, spare, front)
+                .map(Answer::Counted),
+            Call::Read { row, column } => self.read(row, column, keys).map(Answer::Reading),
+            Call::Peak => self.peak(keys).map(Answer::Highest),
+            Call::Reopen => self.reopen(keys).map(|()| Answer::Done),
         }
     }
 }

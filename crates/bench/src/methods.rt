@@ -1,5 +1,5 @@
 ghost use Rattle.std.specs.Prelude.{◌≡◌, ◌*◌, [], IfOk, ◌≢◌};
-ghost use Rattle.sheet.specs.Refusals.{Answers};
+ghost use Rattle.sheet.specs.Refusals.{Answers, passed};
 ghost use Rattle.sheet.specs.declared.order.Order.TheVariants.{Free};
 ghost use Rattle.erosion.specs.Rounds.{Settles};
 ghost use Rattle.settling.specs.Orders.{settle_refusal, Counts, LeavesFront};
@@ -48,10 +48,8 @@ impl Bench {
             result }
         ensures runs_on { PictureGoesOn self.now (strikes row column) picture.old picture.new (answering (λ _. Done) result) }
     {
-        match self.state {
-            State::Open => calls::mark(self.size, row, column, calls::AIR, picture),
-            State::Settled => Err(Refusal::WrongState),
-        }
+        self.check_state(State::Open)?;
+        calls::mark(self.size, row, column, calls::AIR, picture)
     }
 
     // Makes a pixel carbon.
@@ -63,10 +61,8 @@ impl Bench {
             result }
         ensures runs_on { PictureGoesOn self.now (restores row column) picture.old picture.new (answering (λ _. Done) result) }
     {
-        match self.state {
-            State::Open => calls::mark(self.size, row, column, calls::CARBON, picture),
-            State::Settled => Err(Refusal::WrongState),
-        }
+        self.check_state(State::Open)?;
+        calls::mark(self.size, row, column, calls::CARBON, picture)
     }
 
     // Settles the picture: the first n keys get the settled image, and so does the spare. Gives the count of the order.
@@ -94,16 +90,10 @@ impl Bench {
             (answering Counted result) }
         ensures untouched { (order ≢ Free) → front.new ≡ front.old }
     {
-        match self.state {
-            State::Open => {
-                let count = settling::settle(
-                    self.size, metric, order, picture, keys, spare, front,
-                )?;
-                self.state = State::Settled;
-                Ok(count)
-            }
-            State::Settled => Err(Refusal::WrongState),
-        }
+        self.check_state(State::Open)?;
+        let count = settling::settle(self.size, metric, order, picture, keys, spare, front)?;
+        self.state = State::Settled;
+        Ok(count)
     }
 
     // The distance from a pixel to its nearest air with the place of that air; nothing where there is no air.
@@ -120,10 +110,8 @@ impl Bench {
             result }
         ensures runs_on { KeysGoOn self.now (reads row column) keys.now self.now keys.now (answering Reading result) }
     {
-        match self.state {
-            State::Open => Err(Refusal::WrongState),
-            State::Settled => calls::read(self.size, row, column, keys),
-        }
+        self.check_state(State::Settled)?;
+        calls::read(self.size, row, column, keys)
     }
 
     // The greatest distance with the place of the first pixel that has it; nothing where there is no air.
@@ -135,10 +123,8 @@ impl Bench {
             result }
         ensures runs_on { KeysGoOn self.now peaks keys.now self.now keys.now (answering Highest result) }
     {
-        match self.state {
-            State::Open => Err(Refusal::WrongState),
-            State::Settled => calls::peak(self.size, keys),
-        }
+        self.check_state(State::Settled)?;
+        calls::peak(self.size, keys)
     }
 
     // Makes the first n keys blank.
@@ -150,13 +136,19 @@ impl Bench {
             result }
         ensures runs_on { KeysGoOn self.old reopens keys.old self.new keys.new (answering (λ _. Done) result) }
     {
-        match self.state {
-            State::Open => Err(Refusal::WrongState),
-            State::Settled => {
-                calls::clear(self.size, keys)?;
-                self.state = State::Open;
-                Ok(())
-            }
+        self.check_state(State::Settled)?;
+        calls::clear(self.size, keys)?;
+        self.state = State::Open;
+        Ok(())
+    }
+
+    // Refuses a call that wants the other state.
+    fn check_state(&self, wanted: State) -> Result<(), Refusal>
+        ensures { Answers (in_state wanted self.now.state passed) (Unit {0}) (λ _. Unit {0}) result }
+    {
+        if self.state != wanted {
+            return Err(Refusal::WrongState);
         }
+        Ok(())
     }
 }

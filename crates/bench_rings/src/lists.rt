@@ -1,9 +1,13 @@
 // Run lists at random, each with the answer that it must get: readings and peaks by the search, states and refusals by hand.
-use crate::measure::{Case, Way, air_of, higher, pixel_at};
-use crate::pictures::Random;
-use crate::search::{FORMULAS, Formula, nearest};
+use crate::measure::{Case, Way};
 use anyhow::anyhow;
-use runlist::{Reply, answer};
+use bench::State;
+use pictures::formula::{FORMULAS, Formula};
+use pictures::picture::{AIR, CARBON, Picture};
+use pictures::random::Random;
+use pictures::readings::peak;
+use runlist::answer;
+use sheet::refusal::Refusal;
 use sheet::size::Size;
 use std::alloc::Global;
 
@@ -15,90 +19,106 @@ const MOST_CALLS: u64 = 40;
 // Sides of the sheets go from 1 to this; rows and columns of calls from 0 to this, so that some lie off the sheet.
 const SIDE: u64 = 6;
 
-// What a call must give.
-enum Expected {
-    Refused(u32),
-    Found(u64, u64, u64),
-    Absent,
+// The figures of an answer: a settling's count stands for the distance, and where a call finds nothing to tell all are 0.
+#[derive(Clone, Copy)]
+struct Figures {
+    distance: u64,
+    row: u64,
+    column: u64,
+}
+
+// What a call must give: its figures, nothing for a reading or a peak on a sheet without air, or a refusal.
+type Expected = Result<Option<Figures>, Refusal>;
+
+// The figures of a count, and of a call that finds nothing to tell.
+fn counted(count: u64) -> Option<Figures> {
+    Some(Figures {
+        distance: count,
+        row: 0,
+        column: 0,
+    })
+}
+
+// The name of a metric in a run list; what Display prints is another.
+fn word(formula: Formula) -> &'static str {
+    match formula {
+        Formula::CityBlock => "city",
+        Formula::Chessboard => "chess",
+        Formula::Chamfer => "chamfer",
+        Formula::SquaredEuclidean => "euclid",
+    }
 }
 
 // A sheet as the calls of a list find it.
 #[derive(Drop)]
 struct Sheet {
-    size: Size,
     formula: Formula,
-    settled: bool,
-    picture: Vec<u8>,
+    state: State,
+    picture: Picture,
 }
 
 impl Sheet {
-    fn found(&self, found: Option<(u64, u64)>) -> Expected {
-        let width = self.size.width as u64;
-        match found {
-            Some((distance, place)) => Expected::Found(distance, place / width, place % width),
-            None => Expected::Absent,
+    // Refuses a call that wants the sheet in the other state.
+    fn check(&self, wanted: State) -> Result<(), Refusal> {
+        if self.state != wanted {
+            return Err(Refusal::WrongState);
         }
+        Ok(())
     }
 
+    fn figures(&self, found: Option<(u64, u64)>) -> Option<Figures> {
+        let (distance, place) = found?;
+        let width = self.picture.size.width as u64;
+        Some(Figures {
+            distance,
+            row: place / width,
+            column: place % width,
+        })
+    }
+
+    #[tactic(auto, using(std::proofs::lemmas::Nat::rows))]
     fn mark(&mut self, row: usize, column: usize, byte: u8) -> Expected {
-        if self.settled {
-            return Expected::Refused(3);
-        }
-        match self.size.place(row, column) {
-            Ok(place) if place < self.picture.len() => {
-                self.picture[place] = byte;
-                Expected::Found(0, 0, 0)
-            }
-            _ => Expected::Refused(4),
-        }
+        self.check(State::Open)?;
+        let picture = &mut self.picture;
+        let place = picture.size.place(row, column)?;
+        picture.bytes[place] = byte;
+        Ok(counted(0))
     }
 
     // A count is that of a bench of its own.
     fn settle(&mut self, heap: Global, way: Way) -> anyhow::Result<Expected> {
-        if self.settled {
-            return Ok(Expected::Refused(3));
-        }
-        let mut case = Case::new(heap, self.size, self.picture.clone()?)?;
-        match case.settle(self.formula, way) {
-            Ok(count) => {
-                self.settled = true;
-                Ok(Expected::Found(count, 0, 0))
-            }
-            Err(_) => Ok(Expected::Refused(5)),
-        }
+        let picture = Picture {
+            size: self.picture.size,
+            bytes: self.picture.bytes.clone()?,
+        };
+        let count = Case::open(heap, picture)?.settle(self.formula, way).ok();
+        Ok(self.settled(count))
     }
 
-    fn read(&self, heap: Global, row: usize, column: usize) -> anyhow::Result<Expected> {
-        if !self.settled {
-            return Ok(Expected::Refused(3));
-        }
-        let Ok(place) = self.size.place(row, column) else {
-            return Ok(Expected::Refused(4));
-        };
-        let air = air_of(heap, self.size, self.picture.as_slice())?;
-        let found = nearest(self.formula, pixel_at(self.size, place), air.as_slice());
-        Ok(self.found(found))
+    // Takes the count of a settling, or nothing where the order does not admit the metric.
+    fn settled(&mut self, count: Option<u64>) -> Expected {
+        self.check(State::Open)?;
+        let count = count.ok_or(Refusal::NotAdmitted)?;
+        self.state = State::Settled;
+        Ok(counted(count))
+    }
+
+    fn read(&self, row: usize, column: usize) -> Expected {
+        self.check(State::Settled)?;
+        let place = self.picture.size.place(row, column)?;
+        Ok(self.figures(self.picture.nearest(self.formula, place)))
     }
 
     fn peak(&self, heap: Global) -> anyhow::Result<Expected> {
-        if !self.settled {
-            return Ok(Expected::Refused(3));
-        }
-        let air = air_of(heap, self.size, self.picture.as_slice())?;
-        let mut best = None;
-        for place in 0..self.size.pixels() {
-            let found = nearest(self.formula, pixel_at(self.size, place), air.as_slice());
-            best = higher(best, found, place as u64);
-        }
-        Ok(self.found(best))
+        let readings = self.picture.readings(heap, self.formula)?;
+        let highest = self.figures(peak(readings.as_slice()));
+        Ok(self.check(State::Settled).map(|()| highest))
     }
 
     fn reopen(&mut self) -> Expected {
-        if !self.settled {
-            return Expected::Refused(3);
-        }
-        self.settled = false;
-        Expected::Found(0, 0, 0)
+        self.check(State::Settled)?;
+        self.state = State::Open;
+        Ok(counted(0))
     }
 }
 
@@ -111,8 +131,8 @@ struct Made {
 
 impl Made {
     fn begun(heap: Global, sheet: &Sheet) -> anyhow::Result<Self> {
-        let Size { width, height } = sheet.size;
-        let metric = sheet.formula.word();
+        let Size { width, height } = sheet.picture.size;
+        let metric = word(sheet.formula);
         Ok(Made {
             text: format!(in heap;
                 "width,height,metric\n{width},{height},{metric}\ncall,row,column,order\n"
@@ -136,11 +156,20 @@ impl Made {
 
     fn expect(&mut self, heap: Global, line: u64, expected: Expected) -> anyhow::Result<()> {
         let words = match expected {
-            Expected::Refused(number) => format!(in heap; "{line},{number},0,0,0\n")?,
-            Expected::Found(distance, row, column) => {
-                format!(in heap; "{line},0,{distance},{row},{column}\n")?
+            Ok(
+                Some(
+                    Figures {
+                        distance,
+                        row,
+                        column,
+                    },
+                ),
+            ) => { format!(in heap; "{line},0,{distance},{row},{column}\n")? }
+            Ok(None) => format!(in heap; "{line},0,-,-,-\n")?,
+            Err(refusal) => {
+                let number = u32::from(refusal);
+                format!(in heap; "{line},{number},0,0,0\n")?
             }
-            Expected::Absent => format!(in heap; "{line},0,-,-,-\n")?,
         };
         self.answer.push_str(words.as_str())?;
         Ok(())
@@ -159,11 +188,11 @@ impl Made {
         let expected = match random.below(8) {
             0 | 1 => {
                 self.ask(heap, 's', row, column, '-')?;
-                sheet.mark(row, column, 0)
+                sheet.mark(row, column, AIR)
             }
             2 => {
                 self.ask(heap, 'u', row, column, '-')?;
-                sheet.mark(row, column, 1)
+                sheet.mark(row, column, CARBON)
             }
             3 => {
                 let (letter, way) = match random.below(4) {
@@ -177,7 +206,7 @@ impl Made {
             }
             4 | 5 => {
                 self.ask(heap, 'r', row, column, '-')?;
-                sheet.read(heap, row, column)?
+                sheet.read(row, column)
             }
             6 => {
                 self.ask(heap, 'p', 0, 0, '-')?;
@@ -196,24 +225,21 @@ impl Made {
 fn compare_one(heap: Global, random: &mut Random) -> anyhow::Result<u64> {
     let width = 1 + random.below(SIDE) as usize;
     let height = 1 + random.below(SIDE) as usize;
-    let Ok(size) = Size::new(width, height) else {
-        return Err(anyhow!("a small size was refused"));
-    };
+    let size = Size::new(width, height)?;
     let mut sheet = Sheet {
-        size,
         formula: FORMULAS[random.below(4) as usize],
-        settled: false,
-        picture: vec![in heap; 1; size.pixels()]?,
+        state: State::Open,
+        picture: Picture::carbon(heap, size)?,
     };
     let mut made = Made::begun(heap, &sheet)?;
     let calls = random.below(MOST_CALLS);
     for i in 0..calls {
         made.add_call(heap, random, &mut sheet, 4 + i)?;
     }
-    match answer(heap, made.text.as_str().as_bytes())? {
-        Reply::Ran(text) if text.as_str() == made.answer.as_str() => Ok(calls),
-        _ => Err(anyhow!("a run list got another answer than it must")),
+    if answer(heap, made.text.as_str().as_bytes())? != made.answer {
+        return Err(anyhow!("a run list got another answer than it must"));
     }
+    Ok(calls)
 }
 
 // Compares the answers of many lists.

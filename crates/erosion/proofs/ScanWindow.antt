@@ -1,5 +1,5 @@
 -- What a scan reads along its way, and that it makes the sequential erosion equation true.
-use Rattle.std.proofs.Common.{◌≡◌, ℕ, ◌+◌, ◌-◌, ◌*◌, ◌<◌, ◌≤◌, min, max, Bool, true, false, cond, ◌&&◌, ltb, ◌⊎◌, sym, refl, ap, ◌∙◌, subst, inl, inr, ⊎_elim, le_trans, mul_comm, le_antisymm, arith}
+use Rattle.std.proofs.Common.{◌≡◌, ℕ, ◌+◌, ◌-◌, ◌*◌, ◌<◌, ◌≤◌, min, max, Bool, true, cond, ◌&&◌, ltb, ◌⊎◌, sym, refl, ap, ◌∙◌, subst, inl, inr, ⊎_elim, le_trans, mul_comm, le_antisymm, arith}
 use Rattle.std.proofs.lemmas.Bool.{cases_lt, cases_order, cond_both, lt-ltb, ltb-true}
 use Rattle.std.proofs.lemmas.Nat.{mul-add-lt}
 use Rattle.std.proofs.lemmas.Bool.Decides.{nat_tests}
@@ -8,8 +8,11 @@ use Rattle.sheet.specs.Keys.{blank, stepped}
 use Rattle.sheet.specs.Images.{Image, Same, least_on}
 use Rattle.sheet.proofs.Weights.{weight_straight, weight_diagonal}
 use Rattle.transform.specs.Erosion.{offer}
-use Rattle.transform.specs.Raster.{rising, falling, scanned, Scan}
+use Rattle.transform.specs.Raster.{scanned, Scan}
 use Rattle.transform.proofs.Raster.{scanned_own, scanned_blank, scanned_near, le_scanned}
+use Rattle.erosion.specs.declared.raster.Sense.{Sense}
+use Rattle.erosion.specs.declared.raster.Sense.TheVariants.{Rising, Falling}
+use Rattle.erosion.specs.Rounds.{before_in}
 use Rattle.erosion.specs.Walks.{turn, turned_image}
 use Rattle.erosion.specs.Window.{west_of, prior_of, lowest_of, window_of}
 use Rattle.erosion.proofs.Walks.{cond_same, turn_back, turn_on}
@@ -95,15 +98,10 @@ module _ (w s d : ℕ) (f g : Image) (i j : ℕ) (on : j < w) where
       (prior d (j + 1) (λ p q. diagonal (i - 1) (j + 1) (omega arith) q (inl (omega arith)) (omega arith) (omega arith))) in
       omega arith
 
--- which places come before, by the end from which a scan counts
-abbrev pub before_from : Bool → ℕ → ℕ → Bool
-before_from true = falling
-before_from false = rising
-
 -- counted from either end, two lie as far apart
-apart_turn : (b : Bool) (n i j : ℕ) → i < n → j < n → apart (turn b n i) (turn b n j) ≡ apart i j
-apart_turn true n i j p q = omega arith
-apart_turn false n i j p q = refl
+apart_turn : (b : Sense) (n i j : ℕ) → i < n → j < n → apart (turn b n i) (turn b n j) ≡ apart i j
+apart_turn Falling n i j p q = omega arith
+apart_turn Rising n i j p q = refl
 
 -- a place in an earlier row is less
 place_row : (w r c r' c' : ℕ) → r' < r → c' < w → place_of w r' c' < place_of w r c
@@ -114,14 +112,14 @@ place_column w r c r' c' e l = omega (arith, ap (λ (n : ℕ). n * w) e)
 
 module _ (h w i j i' j' : ℕ) (row : i < h) (on : j < w) (row' : i' < h) (on' : j' < w) where
   -- what is earlier has a place that comes before
-  earlier_before : (b : Bool) → Earlier i' j' i j → before_from b (place_of w (turn b h i') (turn b w j')) (place_of w (turn b h i) (turn b w j)) ≡ true
-  earlier_before true (inl up) = lt-ltb _ _ (place_row w (turn true h i') (turn true w j') (turn true h i) (turn true w j) (omega arith) (omega arith))
-  earlier_before true (inr along) = let e = along.0 in let l = along.1 in lt-ltb _ _ (place_column w (turn true h i') (turn true w j') (turn true h i) (turn true w j) (omega arith) (omega arith))
-  earlier_before false (inl up) = lt-ltb _ _ (place_row w i j i' j' up on')
-  earlier_before false (inr along) = lt-ltb _ _ (place_column w i j i' j' along.0 along.1)
+  earlier_before : (b : Sense) → Earlier i' j' i j → before_in b (place_of w (turn b h i') (turn b w j')) (place_of w (turn b h i) (turn b w j)) ≡ true
+  earlier_before Falling (inl up) = lt-ltb _ _ (place_row w (turn Falling h i') (turn Falling w j') (turn Falling h i) (turn Falling w j) (omega arith) (omega arith))
+  earlier_before Falling (inr along) = let e = along.0 in let l = along.1 in lt-ltb _ _ (place_column w (turn Falling h i') (turn Falling w j') (turn Falling h i) (turn Falling w j) (omega arith) (omega arith))
+  earlier_before Rising (inl up) = lt-ltb _ _ (place_row w i j i' j' up on')
+  earlier_before Rising (inr along) = lt-ltb _ _ (place_column w i j i' j' along.0 along.1)
 
 -- and the other way round: of two that are not the same, one is earlier
-before_earlier : (b : Bool) (h w i j i' j' : ℕ) → i < h → j < w → i' < h → j' < w → before_from b (place_of w (turn b h i') (turn b w j')) (place_of w (turn b h i) (turn b w j)) ≡ true → Earlier i' j' i j
+before_earlier : (b : Sense) (h w i j i' j' : ℕ) → i < h → j < w → i' < h → j' < w → before_in b (place_of w (turn b h i') (turn b w j')) (place_of w (turn b h i) (turn b w j)) ≡ true → Earlier i' j' i j
 before_earlier b h w i j i' j' row on row' on' first =
     ⊎_elim
     (λ (same : i' ≡ i).
@@ -134,13 +132,13 @@ before_earlier b h w i j i' j' row on row' on' first =
     (λ (l : i < i'). absurd (not_both b _ _ (earlier_before h w i' j' i j row' on' row on b (inl l)) first)))
     (cases_order i' i)
   where
-    not_both : (b : Bool) (p q : ℕ) → before_from b p q ≡ true → before_from b q p ≡ true → ⊥
-    not_both true p q x y = omega (arith, ltb-true _ _ x, ltb-true _ _ y)
-    not_both false p q x y = omega (arith, ltb-true _ _ x, ltb-true _ _ y)
+    not_both : (b : Sense) (p q : ℕ) → before_in b p q ≡ true → before_in b q p ≡ true → ⊥
+    not_both Falling p q x y = omega (arith, ltb-true _ _ x, ltb-true _ _ y)
+    not_both Rising p q x y = omega (arith, ltb-true _ _ x, ltb-true _ _ y)
 
-    not_itself : (b : Bool) (p q : ℕ) → p ≡ q → before_from b p q ≡ true → ⊥
-    not_itself true p q e t = omega (arith, ltb-true _ _ t)
-    not_itself false p q e t = omega (arith, ltb-true _ _ t)
+    not_itself : (b : Sense) (p q : ℕ) → p ≡ q → before_in b p q ≡ true → ⊥
+    not_itself Falling p q e t = omega (arith, ltb-true _ _ t)
+    not_itself Rising p q e t = omega (arith, ltb-true _ _ t)
 
 lowest_blank : (own near across s d : ℕ) → lowest_of own near across s d ≤ blank
 lowest_blank own near across s d = omega arith
@@ -149,19 +147,19 @@ lowest_own : (own near across s d : ℕ) → lowest_of own near across s d ≤ o
 lowest_own own near across s d = omega arith
 
 -- an image that has the window's key at each pixel, as the scan counts, makes the sequential equation true
-module _ (b : Bool) (h w s d : ℕ) (f g : Image) (window : (i j : ℕ) → i < h → j < w → turned_image b h w g i j ≡ window_of w s d (turned_image b h w f) (turned_image b h w g) i j) where
+module _ (b : Sense) (h w s d : ℕ) (f g : Image) (window : (i j : ℕ) → i < h → j < w → turned_image b h w g i j ≡ window_of w s d (turned_image b h w f) (turned_image b h w g) i j) where
   -- as the scan counts
-  at_pixel : (i j : ℕ) → i < h → j < w → turned_image b h w g i j ≡ scanned (before_from b) h w s d f g (turn b h i) (turn b w j)
+  at_pixel : (i j : ℕ) → i < h → j < w → turned_image b h w g i j ≡ scanned (before_in b) h w s d f g (turn b h i) (turn b w j)
   unfolding ring
   at_pixel i j row on =
       let r : ℕ = turn b h i in
       let c : ℕ = turn b w j in
-      let key : ℕ = scanned (before_from b) h w s d f g r c in
+      let key : ℕ = scanned (before_in b) h w s d f g r c in
       let rows : (i' : ℕ) → i' < h → apart r (turn b h i') ≡ apart i i' = λ i' p. apart_turn b h i i' row p in
       let columns : (j' : ℕ) → j' < w → apart c (turn b w j') ≡ apart j j' = λ j' p. apart_turn b w j j' on p in
       window i j row on
       ∙ le_antisymm
-      (le_scanned (before_from b) h w s d f g r c _ (lowest_blank _ _ _ s d) (lowest_own _ _ _ s d)
+      (le_scanned (before_in b) h w s d f g r c _ (lowest_blank _ _ _ s d) (lowest_own _ _ _ s d)
       (λ r' c' row' on' first one.
       let i' : ℕ = turn b h r' in
       let j' : ℕ = turn b w c' in
@@ -173,20 +171,20 @@ module _ (b : Bool) (h w s d : ℕ) (f g : Image) (window : (i j : ℕ) → i < 
       let ec' : apart j j' ≡ apart c c' = sym (columns j' q) ∙ (λ k. apart c (ec k)) in
       coe 0 1 (k. window_of w s d (turned_image b h w f) (turned_image b h w g) i j ≤ stepped (g (er k) (ec k)) (weight_of s d (ec' k) (er' k)))
       (window_below w s d (turned_image b h w f) (turned_image b h w g) i j on i' j' q
-      (before_earlier b h w i j i' j' row on p q ((λ k. before_from b (place_of w (er k) (ec k)) (place_of w r c)) ∙ first))
+      (before_earlier b h w i j i' j' row on p q ((λ k. before_in b (place_of w (er k) (ec k)) (place_of w r c)) ∙ first))
       ((λ k. max (ec' k) (er' k)) ∙ one))))
-      (window_above w s d (turned_image b h w f) (turned_image b h w g) i j on key (scanned_blank (before_from b) h w s d f g r c) (scanned_own (before_from b) h w s d f g r c)
+      (window_above w s d (turned_image b h w f) (turned_image b h w g) i j on key (scanned_blank (before_in b) h w s d f g r c) (scanned_own (before_in b) h w s d f g r c)
       (λ i' j' p q first one.
       let row' : i' < h = omega arith in
       coe 0 1 (k. key ≤ stepped (turned_image b h w g i' j') (weight_of s d (columns j' q k) (rows i' row' k)))
-      (scanned_near (before_from b) h w s d f g r c (turn b h i') (turn b w j') (turn_on b h i' row') (turn_on b w j' q) (earlier_before h w i j i' j' row on row' q b first)
+      (scanned_near (before_in b) h w s d f g r c (turn b h i') (turn b w j') (turn_on b h i' row') (turn_on b w j' q) (earlier_before h w i j i' j' row on row' q b first)
       ((λ k. max (columns j' q k) (rows i' row' k)) ∙ one))))
 
-  pub window_scans : Same h w g (scanned (before_from b) h w s d f g)
+  pub window_scans : Same h w g (scanned (before_in b) h w s d f g)
   window_scans r c row on =
       let er : turn b h (turn b h r) ≡ r = turn_back b h r (turn b h r) row refl in
       let ec : turn b w (turn b w c) ≡ c = turn_back b w c (turn b w c) on refl in
-      coe 0 1 (k. g (er k) (ec k) ≡ scanned (before_from b) h w s d f g (er k) (ec k)) (at_pixel (turn b h r) (turn b w c) (turn_on b h r row) (turn_on b w c on))
+      coe 0 1 (k. g (er k) (ec k) ≡ scanned (before_in b) h w s d f g (er k) (ec k)) (at_pixel (turn b h r) (turn b w c) (turn_on b h r row) (turn_on b w c on))
 
 -- a scan reads of the image before it only the pixels of the sheet
 pub scan_same : (before : ℕ → ℕ → Bool) (h w s s' d d' : ℕ) (f f' g : Image) → s ≡ s' → d ≡ d' → Same h w f f' → Scan before h w s d f g → Scan before h w s' d' f' g

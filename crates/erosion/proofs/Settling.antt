@@ -44,9 +44,9 @@ module _ {m : Model} (law : Lawful m) {size : Size} {picture keys : List ℕ} {i
   pub few_rounds : i < max size.width size.height
   few_rounds = busy_soon m size.height size.width (image_of size.width picture) law size.tall size.wide i size.columns done.busy
 
-  module _ {spare after : List ℕ} {altered : Bool} (round : Rounded size (m.straight (i + 1)) (m.diagonal (i + 1)) keys spare after altered) where
+  module _ {s d : ℕ} (straight : s ≡ m.straight (i + 1)) (diagonal : d ≡ m.diagonal (i + 1)) {spare after : List ℕ} {altered : Bool} (round : Rounded size s d keys spare after altered) where
     image : Shows size after (rounds_of m size picture (suc i))
-    image = next_image m size picture keys after i done.image round.image
+    image = next_image m size picture keys after i done.image (λ r c row column. round.image r c row column ∙ (λ k. round_of size (straight k) (diagonal k) keys r c))
 
     pub done_more : altered ≡ true → Done m size picture after (i + 1)
     done_more busy =

@@ -3,26 +3,28 @@ use Rattle.std.proofs.Common.{◌≡◌, ℕ, ◌+◌, ◌-◌, ◌<◌, ◌≤�
 use Rattle.std.proofs.lemmas.Bool.{cases_lt, ltb-true}
 use Rattle.sheet.specs.declared.direction.Direction.{Direction}
 use Rattle.sheet.specs.declared.direction.Direction.TheVariants.{North, South, West, East}
+use Rattle.erosion.specs.declared.raster.Sense.{Sense}
+use Rattle.erosion.specs.declared.raster.Sense.TheVariants.{Rising, Falling}
 use Rattle.sheet.specs.Keys.{blank, stepped}
 use Rattle.sheet.specs.Images.{Image}
 use Rattle.transform.specs.Directional.{neighbour_key, swept, AlongRows}
-use Rattle.erosion.specs.Walks.{turn, backward}
+use Rattle.erosion.specs.Walks.{turn, sense_of}
 
 -- the k-th from an end has k before it
-pub turn_back : (b : Bool) (n k j : ℕ) → k < n → j ≡ turn b n k → turn b n j ≡ k
-turn_back true n k j h e = omega arith
-turn_back false n k j h e = e
+pub turn_back : (b : Sense) (n k j : ℕ) → k < n → j ≡ turn b n k → turn b n j ≡ k
+turn_back Falling n k j h e = omega arith
+turn_back Rising n k j h e = e
 
-pub turn_on : (b : Bool) (n k : ℕ) → k < n → turn b n k < n
-turn_on true n k h = omega arith
-turn_on false n k h = h
+pub turn_on : (b : Sense) (n k : ℕ) → k < n → turn b n k < n
+turn_on Falling n k h = omega arith
+turn_on Rising n k h = h
 
-pub turn_only : (b : Bool) (n i j : ℕ) → i < n → j < n → turn b n i ≡ turn b n j → i ≡ j
-turn_only true n i j p q e = omega arith
-turn_only false n i j p q e = e
+pub turn_only : (b : Sense) (n i j : ℕ) → i < n → j < n → turn b n i ≡ turn b n j → i ≡ j
+turn_only Falling n i j p q e = omega arith
+turn_only Rising n i j p q e = e
 
 -- where j is the k-th, what holds of those before it and of j holds of the first k + 1
-pub turn_more : (P : ℕ → Type 0) (b : Bool) (n k j : ℕ) → j < n → turn b n j ≡ k → ((i : ℕ) → i < n → turn b n i < k → P i) → P j → (i : ℕ) → i < n → turn b n i < k + 1 → P i
+pub turn_more : (P : ℕ → Type 0) (b : Sense) (n k j : ℕ) → j < n → turn b n j ≡ k → ((i : ℕ) → i < n → turn b n i < k → P i) → P j → (i : ℕ) → i < n → turn b n i < k + 1 → P i
 turn_more P b n k j on at before here i p q =
     ⊎_elim
     (λ (l : turn b n i < k). before i p l)
@@ -32,9 +34,9 @@ turn_more P b n k j on at before here i p q =
     (cases_lt (turn b n i) k)
 
 -- all n come before the n-th
-pub turn_below : (b : Bool) (n i k : ℕ) → i < n → n ≤ k → turn b n i < k
-turn_below true n i k h e = omega arith
-turn_below false n i k h e = omega arith
+pub turn_below : (b : Sense) (n i k : ℕ) → i < n → n ≤ k → turn b n i < k
+turn_below Falling n i k h e = omega arith
+turn_below Rising n i k h e = omega arith
 
 pub cond_same : (b : Bool) (x y z : ℕ) → (b ≡ true → x ≡ y) → cond b x z ≡ cond b y z
 cond_same true x y z h = h refl
@@ -46,7 +48,7 @@ unfolding swept
 swept_at d h w v f g r c own next i = min (own i) (stepped (next i) v)
 
 -- along a row: f has not changed at the k-th column, those after it and other rows, so that the k-th reads what g holds
-pub swept_in_row : (d : Direction) (h w v : ℕ) (f g : Image) (r c : ℕ) → c < w → ((r' c' : ℕ) → c' < w → (r' ≡ r → turn (backward d) w c ≤ turn (backward d) w c') → f r' c' ≡ g r' c') → swept d h w v f r c ≡ swept d h w v g r c
+pub swept_in_row : (d : Direction) (h w v : ℕ) (f g : Image) (r c : ℕ) → c < w → ((r' c' : ℕ) → c' < w → (r' ≡ r → turn (sense_of d) w c ≤ turn (sense_of d) w c') → f r' c' ≡ g r' c') → swept d h w v f r c ≡ swept d h w v g r c
 swept_in_row North h w v f g r c on same =
     swept_at North h w v f g r c (same r c on (λ _. omega arith)) (cond_same (ltb 0 r) _ _ blank (λ e. same (r - 1) c on (λ q. let l = ltb-true 0 r e in absurd (omega arith))))
 swept_in_row South h w v f g r c on same =
@@ -57,7 +59,7 @@ swept_in_row East h w v f g r c on same =
     swept_at East h w v f g r c (same r c on (λ _. omega arith)) (cond_same (ltb (c + 1) w) _ _ blank (λ e. same r (c + 1) (ltb-true (c + 1) w e) (λ _. omega arith)))
 
 -- row after row: f has not changed at the k-th row and those after it
-pub swept_in_rows : (d : Direction) (h w v : ℕ) (f g : Image) (r c : ℕ) → r < h → c < w → ((r' c' : ℕ) → c' < w → turn (backward d) h r ≤ turn (backward d) h r' → f r' c' ≡ g r' c') → swept d h w v f r c ≡ swept d h w v g r c
+pub swept_in_rows : (d : Direction) (h w v : ℕ) (f g : Image) (r c : ℕ) → r < h → c < w → ((r' c' : ℕ) → c' < w → turn (sense_of d) h r ≤ turn (sense_of d) h r' → f r' c' ≡ g r' c') → swept d h w v f r c ≡ swept d h w v g r c
 swept_in_rows North h w v f g r c row on same =
     swept_at North h w v f g r c (same r c on (omega arith)) (cond_same (ltb 0 r) _ _ blank (λ e. same (r - 1) c on (omega arith)))
 swept_in_rows South h w v f g r c row on same =

@@ -14,6 +14,10 @@ Fits size memory = size.width * size.height ≤ length memory
 abbrev pub needs_memory : Size → List ℕ → Option Refusal → Option Refusal
 needs_memory size memory rest = check (nat_lt (length memory) (size.width * size.height)) ShortMemory rest
 
+-- the refusal of a picture, keys or a spare that is shorter
+abbrev pub needs_all : Size → List ℕ → List ℕ → List ℕ → Option Refusal → Option Refusal
+needs_all size picture keys spare rest = needs_memory size picture (needs_memory size keys (needs_memory size spare rest))
+
 -- the memory holds an image on the sheet
 abbrev pub Shows : Size → List ℕ → Image → Type 0
 Shows size memory f = Same size.height size.width (image_of size.width memory) f

@@ -1,12 +1,12 @@
 -- The phases of the directional order, row by row; for the inner functions only.
 use Rattle.std.specs.Prelude.{◌≡◌, ℕ, suc, ◌<◌, List, slice_index}
 use Rattle.sheet.specs.declared.direction.Direction.{Direction}
-use Rattle.sheet.specs.declared.size.Size.{Size}
-use Rattle.sheet.specs.Images.{Image, image_of}
+use Rattle.sheet.specs.Images.{Image, Same}
 use Rattle.metric.specs.Model.{Model}
 use Rattle.transform.specs.Directional.{sweeps}
 use Rattle.transform.specs.Erosion.{FirstIdle}
-use Rattle.erosion.specs.Memory.{Shows}
+use Rattle.erosion.specs.declared.grid.Grid.{Grid}
+use Rattle.erosion.specs.Grids.{held}
 
 -- the first n straight weights of a metric, in a table
 abbrev pub Straights : Model → ℕ → List ℕ → Type 0
@@ -29,7 +29,11 @@ pub record RowPhase (w : ℕ) (series : ℕ → Image) (r n : ℕ) (f : Image) :
   pub busy : (i : ℕ) → i < before → RowIdle w series r i → ⊥
   pub line : (c : ℕ) → c < w → f r c ≡ series n r c
 
--- a phase of keys, which become keys': n is its first idle round
-pub record PhaseOf (m : Model) (size : Size) (direction : Direction) (keys : List ℕ) (n : ℕ) (keys' : List ℕ) : Type 0 where
-  pub first : FirstIdle size.height size.width (sweeps m direction size.height size.width (image_of size.width keys)) n
-  pub image : Shows size keys' (sweeps m direction size.height size.width (image_of size.width keys) n)
+-- the rounds of a phase from a grid
+abbrev pub sweeps_in : Model → Direction → Grid → ℕ → Image
+sweeps_in m direction grid = sweeps m direction grid.size.height grid.size.width (held grid)
+
+-- a phase of a grid, which becomes grid': n is its first idle round
+pub record PhaseOf (m : Model) (direction : Direction) (grid : Grid) (n : ℕ) (grid' : Grid) : Type 0 where
+  pub first : FirstIdle grid.size.height grid.size.width (sweeps_in m direction grid) n
+  pub image : Same grid.size.height grid.size.width (held grid') (sweeps_in m direction grid n)

@@ -2,11 +2,12 @@
 ghost use Rattle.std.specs.Prelude.{◌≡◌, not};
 ghost use Rattle.sheet.specs.Refusals.{Answers, check, passed};
 ghost use Rattle.sheet.specs.declared.refusal.Refusal.TheVariants.{NotAdmitted};
-ghost use Rattle.erosion.specs.Memory.{needs_memory};
+ghost use Rattle.erosion.specs.Memory.{needs_all, needs_memory};
 ghost use Rattle.erosion.specs.Rounds.{Swept, Settles, CountsPhases};
 
+use crate::grid::Grid;
+use crate::memory::check_all;
 use crate::phases::run_phases;
-use crate::sweeps::sweep;
 use metric::Metric;
 use sheet::direction::Direction;
 use sheet::refusal::Refusal;
@@ -27,7 +28,8 @@ pub fn round(
         result }
 {
     size.check_memory(keys.len())?;
-    Ok(sweep(size, keys, direction, straight))
+    let mut grid = Grid { size, keys };
+    Ok(grid.sweep(direction, straight))
 }
 
 // Settles a picture by the directional order: the keys get the settled image, and so does the spare. Gives the number of rounds
@@ -40,14 +42,12 @@ pub fn settle<M: Metric>(
     spare: &mut [u64],
 ) -> Result<u64, Refusal>
     ensures { Answers
-        (needs_memory size picture.now (needs_memory size keys.old (needs_memory size spare.old (check (not (M.model metric.now).splits) NotAdmitted passed))))
+        (needs_all size picture.now keys.old spare.old (check (not (M.model metric.now).splits) NotAdmitted passed))
         ((keys.new ≡ keys.old) × (spare.new ≡ spare.old))
         (λ count. Settles (M.model metric.now) size picture.now keys.old keys.new spare.old spare.new × CountsPhases (M.model metric.now) size picture.now count)
         result }
 {
-    size.check_memory(picture.len())?;
-    size.check_memory(keys.len())?;
-    size.check_memory(spare.len())?;
+    check_all(size, picture, keys, spare)?;
     if !metric.splits() {
         return Err(Refusal::NotAdmitted);
     }

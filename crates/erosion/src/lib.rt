@@ -4,7 +4,8 @@
 ghost use Rattle.erosion.specs.Rounds.{OrdersAgree};
 
 pub mod directional;
-mod memory;
+mod grid;
+pub mod memory;
 pub mod parallel;
 mod phases;
 pub mod raster;
@@ -12,6 +13,7 @@ pub mod start;
 mod sweeps;
 #[cfg(test)]
 mod tests;
+mod view;
 
 // Every order leaves the same keys.
 pub fn orders_agree()

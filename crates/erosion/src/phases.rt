@@ -1,17 +1,15 @@
 // The phases of the directional order. Rows are independent of one another there, so each is brought to rest before the next,
 // while it is in the cache; columns are worked as the rows of the sheet with rows and columns exchanged.
 ghost use Rattle.std.specs.Prelude.{◌≡◌, ℕ, ◌+◌, ◌<◌, ◌≤◌, max, true, length};
-ghost use Rattle.sheet.specs.Images.{image_of};
 ghost use Rattle.metric.specs.Laws.{Lawful};
 ghost use Rattle.metric.specs.Model.{Model};
-ghost use Rattle.transform.specs.Directional.{AlongRows, Keyed, sweeps};
-ghost use Rattle.erosion.specs.Memory.{Fits, past};
-ghost use Rattle.erosion.specs.Phases.{Straights, RowPhase, PhaseOf};
+ghost use Rattle.transform.specs.Directional.{AlongRows, Keyed};
+ghost use Rattle.erosion.specs.Memory.{Fits};
+ghost use Rattle.erosion.specs.Grids.{held, Stays};
+ghost use Rattle.erosion.specs.Phases.{Straights, RowPhase, sweeps_in, PhaseOf};
 ghost use Rattle.erosion.specs.Rounds.{Settles, CountsPhases};
 
-use crate::memory::{copy, transpose};
-use crate::start::begin;
-use crate::sweeps::sweep_row;
+use crate::grid::Grid;
 use metric::Metric;
 use sheet::direction::Direction;
 use sheet::size::Size;
@@ -26,51 +24,46 @@ fn straights<M: Metric>(metric: &M, count: usize) -> [u32; LEVELS]
     ensures weights { Straights (M.model metric.now) count result }
 {
     let mut weights = [0; LEVELS];
+    // by index: `array::from_fn` would ask for 1024 weights on the smallest sheet, and after `iter_mut` a proof knows no element
     for k in 0..count {
         weights[k] = metric.straight(k as u32 + 1);
     }
     weights
 }
 
-// A phase of one row, from the west or the east; gives the number of its rounds, of which the last left it as it was.
-fn settle_row(
-    size: Size,
-    keys: &mut [u64],
-    weights: &[u32],
-    direction: Direction,
-    row: usize,
-) -> u64
-    requires fits { Fits size keys.old }
-    requires table { size.width ≤ length weights.now }
-    requires along { AlongRows direction }
-    requires on { row < size.height }
-    ensures phase { (m : Model) → Lawful m → Straights m size.width weights.now → Keyed size.height size.width (image_of size.width keys.old) → RowPhase size.width (sweeps m direction size.height size.width (image_of size.width keys.old)) row result (image_of size.width keys.new) }
-    ensures others { (r c : ℕ) → c < size.width → (r ≡ row → ⊥) → image_of size.width keys.new r c ≡ image_of size.width keys.old r c }
-    ensures rest { past size keys.new ≡ past size keys.old }
-    ensures few { result ≤ size.width }
-{
-    for k in 0..size.width {
-        if !sweep_row(size, keys, direction, row, weights[k]) {
-            return k as u64 + 1;
+impl Grid<'_> {
+    // A phase of one row, from the west or the east; gives the number of its rounds, of which the last left it as it was.
+    fn settle_row(&mut self, weights: &[u32], direction: Direction, row: usize) -> u64
+        requires table { length weights.now ≡ self.old.size.width }
+        requires along { AlongRows direction }
+        requires on { row < self.old.size.height }
+        ensures phase { (m : Model) → Lawful m → Straights m self.old.size.width weights.now → Keyed self.old.size.height self.old.size.width (held self.old) → RowPhase self.old.size.width (sweeps_in m direction self.old) row result (held self.new) }
+        ensures others { (r c : ℕ) → c < self.old.size.width → (r ≡ row → ⊥) → held self.new r c ≡ held self.old r c }
+        ensures stays { Stays self.old self.new }
+        ensures few { result ≤ self.old.size.width }
+    {
+        for (k, weight) in weights.iter().enumerate() {
+            if !self.sweep_row(direction, row, *weight) {
+                return k as u64 + 1;
+            }
         }
+        self.size.width as u64
     }
-    size.width as u64
-}
 
-// A phase of all rows, from the west or the east; gives the number of its rounds, which is the greatest over the rows.
-fn settle_rows(size: Size, keys: &mut [u64], weights: &[u32], direction: Direction) -> u64
-    requires fits { Fits size keys.old }
-    requires table { size.width ≤ length weights.now }
-    requires along { AlongRows direction }
-    ensures phase { (m : Model) → Lawful m → Straights m size.width weights.now → Keyed size.height size.width (image_of size.width keys.old) → PhaseOf m size direction keys.old result keys.new }
-    ensures rest { past size keys.new ≡ past size keys.old }
-    ensures few { result ≤ size.width }
-{
-    let mut most = 0;
-    for row in 0..size.height {
-        most = settle_row(size, keys, weights, direction, row).max(most);
+    // A phase of all rows, from the west or the east; gives the number of its rounds, which is the greatest over the rows.
+    fn settle_rows(&mut self, weights: &[u32], direction: Direction) -> u64
+        requires table { length weights.now ≡ self.old.size.width }
+        requires along { AlongRows direction }
+        ensures phase { (m : Model) → Lawful m → Straights m self.old.size.width weights.now → Keyed self.old.size.height self.old.size.width (held self.old) → PhaseOf m direction self.old result self.new }
+        ensures stays { Stays self.old self.new }
+        ensures few { result ≤ self.old.size.width }
+    {
+        let mut most = 0;
+        for row in 0..self.size.height {
+            most = self.settle_row(weights, direction, row).max(most);
+        }
+        most
     }
-    most
 }
 
 // The four phases from the starting image of a picture, in memories that are known to hold the sheet; gives the sum of their
@@ -94,13 +87,18 @@ pub(crate) fn run_phases<M: Metric>(
         width: size.height,
         height: size.width,
     };
-    begin(size, picture, keys);
-    transpose(size, keys, spare);
-    let north = settle_rows(turned, spare, &weights, Direction::West);
-    let south = settle_rows(turned, spare, &weights, Direction::East);
-    transpose(turned, spare, keys);
-    let west = settle_rows(size, keys, &weights, Direction::West);
-    let east = settle_rows(size, keys, &weights, Direction::East);
-    copy(size, keys, spare);
+    let mut grid = Grid { size, keys };
+    let mut across = Grid {
+        size: turned,
+        keys: spare,
+    };
+    grid.begin(picture);
+    grid.transpose(&mut across);
+    let north = across.settle_rows(&weights[..size.height], Direction::West);
+    let south = across.settle_rows(&weights[..size.height], Direction::East);
+    across.transpose(&mut grid);
+    let west = grid.settle_rows(&weights[..size.width], Direction::West);
+    let east = grid.settle_rows(&weights[..size.width], Direction::East);
+    grid.copy(spare);
     north + south + west + east
 }

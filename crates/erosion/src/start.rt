@@ -1,26 +1,25 @@
 ghost use Rattle.std.specs.Prelude.{◌≡◌};
-ghost use Rattle.sheet.specs.Images.{image_of};
+ghost use Rattle.sheet.specs.Images.{Same, image_of};
 ghost use Rattle.sheet.specs.Refusals.{Answers, passed};
 ghost use Rattle.transform.specs.Erosion.{starting};
 ghost use Rattle.erosion.specs.Memory.{Shows, Fits, past, needs_memory};
+ghost use Rattle.erosion.specs.Grids.{held, Stays};
 
+use crate::grid::Grid;
 use sheet::key;
 use sheet::refusal::Refusal;
 use sheet::size::Size;
 
-// Writes the starting image of a picture into keys that are known to hold the sheet.
-pub(crate) fn begin(size: Size, picture: &[u8], keys: &mut [u64])
-    requires picture { Fits size picture.now }
-    requires keys { Fits size keys.old }
-    ensures image { Shows size keys.new (starting size.width (image_of size.width picture.now)) }
-    ensures rest { past size keys.new ≡ past size keys.old }
-{
-    for place in 0..size.pixels() {
-        keys[place] = if picture[place] == 0 {
-            place as u64
-        } else {
-            key::BLANK
-        };
+impl Grid<'_> {
+    // Writes the starting image of a picture.
+    pub(crate) fn begin(&mut self, picture: &[u8])
+        requires { Fits self.old.size picture.now }
+        ensures image { Same self.old.size.height self.old.size.width (held self.new) (starting self.old.size.width (image_of self.old.size.width picture.now)) }
+        ensures stays { Stays self.old self.new }
+    {
+        for (place, byte) in picture[..self.size.pixels()].iter().enumerate() {
+            self.keys[place] = if *byte == 0 { place as u64 } else { key::BLANK };
+        }
     }
 }
 
@@ -34,6 +33,7 @@ pub fn start(size: Size, picture: &[u8], keys: &mut [u64]) -> Result<(), Refusal
 {
     size.check_memory(picture.len())?;
     size.check_memory(keys.len())?;
-    begin(size, picture, keys);
+    let mut grid = Grid { size, keys };
+    grid.begin(picture);
     Ok(())
 }

@@ -1,127 +1,103 @@
 // Directional rounds in memory that is known to hold the sheet.
 ghost use Rattle.std.specs.Prelude.{◌≡◌, ℕ, ◌<◌, true, false, ◌≢◌};
-ghost use Rattle.sheet.specs.Images.{image_of};
 ghost use Rattle.transform.specs.Directional.{neighbour_key};
-ghost use Rattle.erosion.specs.Memory.{Fits, On, past};
-ghost use Rattle.erosion.specs.Rounds.{Swept, sweep_of};
-ghost use Rattle.erosion.specs.Walks.{backward};
+ghost use Rattle.erosion.specs.Views.{shown};
+ghost use Rattle.erosion.specs.Memory.{On};
+ghost use Rattle.erosion.specs.Grids.{held, sweep_in, Stays};
+ghost use Rattle.erosion.specs.Rounds.{Swept};
+ghost use Rattle.erosion.specs.Walks.{sense_of};
 
-use crate::memory::{key_at, put_key, turned};
+use crate::grid::Grid;
+use crate::memory::turned;
+use crate::raster::Sense;
+use crate::view::View;
 use sheet::direction::Direction;
 use sheet::key;
 use sheet::size::Size;
 
-// The key of the neighbour in a direction.
-fn neighbour(size: Size, keys: &[u64], direction: Direction, row: usize, column: usize) -> u64
-    requires fits { Fits size keys.now }
-    requires on { On size row column }
-    ensures { result ≡ neighbour_key direction size.height size.width (image_of size.width keys.now) row column }
+impl View<'_> {
+    // The key of the neighbour in a direction.
+    fn neighbour(self, direction: Direction, row: usize, column: usize) -> u64
+        requires { On self.size row column }
+        ensures { result ≡ neighbour_key direction self.entry.size.height self.entry.size.width (shown self.entry) row column }
+    {
+        match direction {
+            Direction::North if row > 0 => self.at(row - 1, column),
+            Direction::South if row + 1 < self.size.height => self.at(row + 1, column),
+            Direction::West if column > 0 => self.at(row, column - 1),
+            Direction::East if column + 1 < self.size.width => self.at(row, column + 1),
+            _ => key::BLANK,
+        }
+    }
+}
+
+// The sense in which keys are taken from a direction.
+fn sense_of(direction: Direction) -> Sense
+    ensures { result ≡ sense_of direction }
 {
     match direction {
-        Direction::North => {
-            if row > 0 {
-                key_at(size, keys, row - 1, column)
-            } else {
-                key::BLANK
-            }
-        }
-        Direction::South => {
-            if row + 1 < size.height {
-                key_at(size, keys, row + 1, column)
-            } else {
-                key::BLANK
-            }
-        }
-        Direction::West => {
-            if column > 0 {
-                key_at(size, keys, row, column - 1)
-            } else {
-                key::BLANK
-            }
-        }
-        Direction::East => {
-            if column + 1 < size.width {
-                key_at(size, keys, row, column + 1)
-            } else {
-                key::BLANK
-            }
-        }
+        Direction::North | Direction::West => Sense::Falling,
+        Direction::South | Direction::East => Sense::Rising,
     }
 }
 
-// Whether keys from a direction are taken in falling place.
-fn is_backward(direction: Direction) -> bool
-    ensures { result ≡ backward direction }
-{
-    match direction {
-        Direction::North => true,
-        Direction::South => false,
-        Direction::West => true,
-        Direction::East => false,
+impl Grid<'_> {
+    // Gives a pixel the lesser of its key and its neighbour's stepped; says whether that altered it.
+    fn sweep_pixel(
+        &mut self,
+        direction: Direction,
+        row: usize,
+        column: usize,
+        straight: u32,
+    ) -> bool
+        requires { On self.old.size row column }
+        ensures pixel { held self.new row column ≡ sweep_in self.old direction straight row column }
+        ensures others { (r c : ℕ) → c < self.old.size.width → (r ≡ row → c ≢ column) → held self.new r c ≡ held self.old r c }
+        ensures stays { Stays self.old self.new }
+        ensures idle { result ≡ false → sweep_in self.old direction straight row column ≡ held self.old row column }
+        ensures busy { result ≡ true → sweep_in self.old direction straight row column ≢ held self.old row column }
+    {
+        let view = self.view();
+        let own = view.at(row, column);
+        let least = own.min(key::step(view.neighbour(direction, row, column), straight));
+        self.put(row, column, least);
+        least != own
     }
-}
 
-// Gives a pixel the lesser of its key and its neighbour's stepped; says whether that altered it.
-fn sweep_pixel(
-    size: Size,
-    keys: &mut [u64],
-    direction: Direction,
-    row: usize,
-    column: usize,
-    straight: u32,
-) -> bool
-    requires fits { Fits size keys.old }
-    requires on { On size row column }
-    ensures pixel { image_of size.width keys.new row column ≡ sweep_of size direction straight keys.old row column }
-    ensures others { (r c : ℕ) → c < size.width → (r ≡ row → c ≢ column) → image_of size.width keys.new r c ≡ image_of size.width keys.old r c }
-    ensures rest { past size keys.new ≡ past size keys.old }
-    ensures idle { result ≡ false → sweep_of size direction straight keys.old row column ≡ image_of size.width keys.old row column }
-    ensures busy { result ≡ true → sweep_of size direction straight keys.old row column ≢ image_of size.width keys.old row column }
-{
-    let own = key_at(size, keys, row, column);
-    let least = own.min(key::step(neighbour(size, keys, direction, row, column), straight));
-    put_key(size, keys, row, column, least);
-    least != own
-}
-
-// A row of a directional round, in place: each pixel is rewritten before the one that reads it would be wrong. Says whether
-// anything altered.
-pub(crate) fn sweep_row(
-    size: Size,
-    keys: &mut [u64],
-    direction: Direction,
-    row: usize,
-    straight: u32,
-) -> bool
-    requires fits { Fits size keys.old }
-    requires on { row < size.height }
-    ensures line { (c : ℕ) → c < size.width → image_of size.width keys.new row c ≡ sweep_of size direction straight keys.old row c }
-    ensures others { (r c : ℕ) → c < size.width → (r ≢ row) → image_of size.width keys.new r c ≡ image_of size.width keys.old r c }
-    ensures rest { past size keys.new ≡ past size keys.old }
-    ensures idle { result ≡ false → (c : ℕ) → c < size.width → sweep_of size direction straight keys.old row c ≡ image_of size.width keys.old row c }
-    ensures busy { result ≡ true → ((c : ℕ) → c < size.width → sweep_of size direction straight keys.old row c ≡ image_of size.width keys.old row c) → ⊥ }
-{
-    let mut altered = false;
-    for k in 0..size.width {
-        let column = turned(is_backward(direction), size.width, k);
-        if sweep_pixel(size, keys, direction, row, column, straight) {
-            altered = true;
+    // A row of a directional round, in place: each pixel is rewritten before the one that reads it would be wrong. Says whether
+    // anything altered.
+    pub(crate) fn sweep_row(&mut self, direction: Direction, row: usize, straight: u32) -> bool
+        requires { row < self.old.size.height }
+        ensures line { (c : ℕ) → c < self.old.size.width → held self.new row c ≡ sweep_in self.old direction straight row c }
+        ensures others { (r c : ℕ) → c < self.old.size.width → (r ≢ row) → held self.new r c ≡ held self.old r c }
+        ensures stays { Stays self.old self.new }
+        ensures idle { result ≡ false → (c : ℕ) → c < self.old.size.width → sweep_in self.old direction straight row c ≡ held self.old row c }
+        ensures busy { result ≡ true → ((c : ℕ) → c < self.old.size.width → sweep_in self.old direction straight row c ≡ held self.old row c) → ⊥ }
+    {
+        let width = self.size.width;
+        let mut altered = false;
+        for k in 0..width {
+            let column = turned(sense_of(direction), width, k);
+            if self.sweep_pixel(direction, row, column, straight) {
+                altered = true;
+            }
         }
+        altered
     }
-    altered
-}
 
-// A directional round in keys that are known to hold the sheet.
-pub(crate) fn sweep(size: Size, keys: &mut [u64], direction: Direction, straight: u32) -> bool
-    requires { Fits size keys.old }
-    ensures { Swept size direction straight keys.old keys.new result }
-{
-    let mut altered = false;
-    for k in 0..size.height {
-        let row = turned(is_backward(direction), size.height, k);
-        if sweep_row(size, keys, direction, row, straight) {
-            altered = true;
+    // A directional round.
+    pub(crate) fn sweep(&mut self, direction: Direction, straight: u32) -> bool
+        ensures round { Swept self.old.size direction straight self.old.keys.now self.new.keys.now result }
+        ensures stays { Stays self.old self.new }
+    {
+        let height = self.size.height;
+        let mut altered = false;
+        for k in 0..height {
+            let row = turned(sense_of(direction), height, k);
+            if self.sweep_row(direction, row, straight) {
+                altered = true;
+            }
         }
+        altered
     }
-    altered
 }

@@ -2,6 +2,7 @@ use crate::start::start;
 use crate::{directional, parallel, raster};
 use metric::chessboard::Chessboard;
 use metric::squared_euclidean::SquaredEuclidean;
+use metric::weights::Weights;
 use sheet::key;
 use sheet::refusal::Refusal;
 use sheet::size::Size;
@@ -69,7 +70,11 @@ fn one_round(rt: HostRuntime) -> Result<(), Fail> {
     start(size, &[1, 1, 1, 0], &mut keys)?;
     assert_eq!(rt; keys[0], key::BLANK);
     assert_eq!(rt; keys[3], 3);
-    assert_eq!(rt; parallel::round(size, &keys, &mut spare, 7, 5), Ok(true));
+    let weights = Weights {
+        straight: 7,
+        diagonal: 5,
+    };
+    assert_eq!(rt; parallel::round(size, &keys, &mut spare, weights), Ok(true));
     assert_eq!(rt; key::reading(spare[0]), Some((5, 3)));
     assert_eq!(rt; key::reading(spare[1]), Some((7, 3)));
     assert_eq!(rt; spare[4], 9, "past the sheet");
@@ -86,7 +91,15 @@ fn short_memory(rt: HostRuntime) -> Result<(), Fail> {
         Err(Refusal::ShortMemory)
     );
     assert_eq!(rt;
-        parallel::round(size, &keys, &mut spare, 1, 2),
+        parallel::round(
+            size,
+            &keys,
+            &mut spare,
+            Weights {
+                straight: 1,
+                diagonal: 2,
+            },
+        ),
         Err(Refusal::ShortMemory)
     );
     assert_eq!(rt;

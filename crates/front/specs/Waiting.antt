@@ -47,3 +47,9 @@ NoneWaits ws = (p : ℕ) → slice_index_or ws p false ≡ false
 -- no lower place waits
 abbrev pub NoneLower : List Bool → ℕ → Type 0
 NoneLower ws p = (q : ℕ) → q < p → slice_index_or ws q false ≡ false
+
+-- a place is the lowest that waits
+pub record IsLowest (ws : List Bool) (p : ℕ) : Type 0 where
+  pub within : p < length ws
+  pub waits : get_or ws p false ≡ true
+  pub none_lower : NoneLower ws p

@@ -9,7 +9,6 @@ ghost use Rattle.front.specs.Waiting.{refusal_of, size_of, idle, many, Puts, Tak
 use sheet::refusal::Refusal;
 
 pub mod mark_front;
-mod marks;
 pub mod queue_front;
 #[cfg(test)]
 mod tests;
@@ -79,8 +78,5 @@ pub(crate) fn fitting(size: usize, memory: usize) -> usize
     ensures within { result ≤ memory }
     ensures bounded { result ≤ 1048576 }
 {
-    match check_front(size, memory) {
-        Ok(()) => size,
-        Err(_) => 0,
-    }
+    check_front(size, memory).map_or(0, |()| size)
 }

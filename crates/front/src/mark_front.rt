@@ -5,6 +5,7 @@ ghost use Rattle.front.specs.Memory.{ClearBelow};
 mod methods;
 
 // The first marks of the memory say which places wait; none below `low` does.
+// The size stands beside the whole memory: no proof is made that a struct which keeps the first part gives back the rest.
 #[derive(Drop)]
 pub struct MarkFront<'a> {
     tally: u64,

@@ -5,6 +5,7 @@ ghost use Rattle.front.specs.Memory.{is_set, Live, Apart};
 mod methods;
 
 // The waiting places lie in the ring from `head` on, in the order put; a flag for each place says whether it waits.
+// The size stands beside the whole memories, as in a mark front; the ring is no deque, since its memory is lent in a slice.
 #[derive(Drop)]
 pub struct QueueFront<'a> {
     tally: u64,

@@ -1,5 +1,5 @@
 -- The four metrics. g is the greater and l the lesser absolute value of an offset.
-use Rattle.std.specs.Prelude.{ℕ, ◌+◌, ◌-◌, ◌*◌, min, max, Bool, true, false}
+use Rattle.std.specs.Prelude.{◌≡◌, ◌≤◌, ◌==◌, ℕ, ◌+◌, ◌-◌, ◌*◌, min, max, Bool, true, false}
 use Rattle.metric.specs.Model.{Model, at_level, at_offset}
 
 -- the same weights at every level
@@ -31,3 +31,14 @@ squared_euclidean = record {
   steady = false;
   splits = true;
 }
+
+-- the numbers of a metric with these weights at every level, whose far takes a step of the diagonal weight for each of the lesser offset
+-- and one of the straight weight for each of the rest
+pub record ByWeights (straight diagonal : ℕ) (m : Model) : Type 0 where
+  pub rising : straight ≤ diagonal
+  pub small : diagonal ≤ 1000
+  pub straights : (i : ℕ) → m.straight i ≡ at_level i straight
+  pub diagonals : (i : ℕ) → m.diagonal i ≡ at_level i diagonal
+  pub fars : (x y : ℕ) → m.far x y ≡ at_offset x y (straight * max x y + (diagonal - straight) * min x y)
+  pub is_steady : m.steady ≡ true
+  pub halves : m.splits ≡ (diagonal == 2 * straight)

@@ -9,7 +9,7 @@ use Rattle.sheet.specs.Pixels.{apart, weight_of}
 use Rattle.sheet.proofs.Weights.{weight_straight, weight_diagonal}
 use Rattle.metric.specs.Model.{at_level, at_offset}
 use Rattle.metric.specs.Laws.{Lawful, Reached, Parted}
-use Rattle.metric.specs.Metrics.{steady_model, city_block, chessboard, chamfer}
+use Rattle.metric.specs.Metrics.{ByWeights, steady_model, city_block, chessboard, chamfer}
 use Rattle.metric.specs.Bounds.{level_in, level_out, level_bound, offset_in, offset_out, offset_bound}
 
 -- a product with one more, and with at most as much
@@ -176,3 +176,12 @@ chessboard_lawful = steady_lawful 1 1 (λ g l. g) false (omega arith) (omega ari
 
 pub chamfer_lawful : Lawful chamfer
 chamfer_lawful = steady_lawful 3 4 (λ g l. 3 * g + l) false (omega arith) (omega arith) (omega arith) (omega arith) refl (λ g l h. omega arith)
+
+pub chamfer_by_weights : ByWeights 3 4 chamfer
+chamfer_by_weights = record { rising = omega arith; small = omega arith; straights = λ i. refl; diagonals = λ i. refl; fars = λ x y. ap (at_offset x y) (omega arith); is_steady = refl; halves = refl }
+
+pub city_block_by_weights : ByWeights 1 2 city_block
+city_block_by_weights = record { rising = omega arith; small = omega arith; straights = λ i. refl; diagonals = λ i. refl; fars = λ x y. ap (at_offset x y) (omega arith); is_steady = refl; halves = refl }
+
+pub chessboard_by_weights : ByWeights 1 1 chessboard
+chessboard_by_weights = record { rising = omega arith; small = omega arith; straights = λ i. refl; diagonals = λ i. refl; fars = λ x y. ap (at_offset x y) (omega arith); is_steady = refl; halves = refl }

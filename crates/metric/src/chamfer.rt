@@ -1,39 +1,24 @@
 // The chamfer with weights 3 and 4.
 ghost use Rattle.metric.specs.Metrics.{chamfer};
-ghost use Rattle.metric.specs.Steady.{chamfer_lawful};
+ghost use Rattle.metric.specs.Steady.{chamfer_lawful, chamfer_by_weights};
 
-use crate::Metric;
-use crate::ranges::{at_every_level, by_greater_and_lesser};
-
-const STRAIGHT: u32 = 3;
-
-const DIAGONAL: u32 = 4;
+use crate::steady::Steady;
 
 #[derive(Clone, Copy)]
 pub struct Chamfer;
 
-impl Metric for Chamfer {
-    ghost model = { λ _. chamfer };
+impl Steady for Chamfer {
+    ghost STRAIGHT = { 3 };
 
-    ghost lawful = { λ _. chamfer_lawful };
+    ghost DIAGONAL = { 4 };
 
-    fn straight(&self, level: u32) -> u32 {
-        at_every_level(level, STRAIGHT)
-    }
+    const STRAIGHT: u32 = 3;
 
-    fn diagonal(&self, level: u32) -> u32 {
-        at_every_level(level, DIAGONAL)
-    }
+    const DIAGONAL: u32 = 4;
 
-    fn far(&self, columns: i32, rows: i32) -> u32 {
-        by_greater_and_lesser(columns, rows, 3, 1)
-    }
+    ghost numbers = { chamfer };
 
-    fn is_steady(&self) -> bool {
-        true
-    }
+    ghost from_weights = { chamfer_by_weights };
 
-    fn splits(&self) -> bool {
-        DIAGONAL == 2 * STRAIGHT
-    }
+    ghost keeps = { chamfer_lawful };
 }

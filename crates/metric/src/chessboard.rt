@@ -1,38 +1,23 @@
 ghost use Rattle.metric.specs.Metrics.{chessboard};
-ghost use Rattle.metric.specs.Steady.{chessboard_lawful};
+ghost use Rattle.metric.specs.Steady.{chessboard_lawful, chessboard_by_weights};
 
-use crate::Metric;
-use crate::ranges::{at_every_level, by_greater_and_lesser};
-
-const STRAIGHT: u32 = 1;
-
-const DIAGONAL: u32 = 1;
+use crate::steady::Steady;
 
 #[derive(Clone, Copy)]
 pub struct Chessboard;
 
-impl Metric for Chessboard {
-    ghost model = { λ _. chessboard };
+impl Steady for Chessboard {
+    ghost STRAIGHT = { 1 };
 
-    ghost lawful = { λ _. chessboard_lawful };
+    ghost DIAGONAL = { 1 };
 
-    fn straight(&self, level: u32) -> u32 {
-        at_every_level(level, STRAIGHT)
-    }
+    const STRAIGHT: u32 = 1;
 
-    fn diagonal(&self, level: u32) -> u32 {
-        at_every_level(level, DIAGONAL)
-    }
+    const DIAGONAL: u32 = 1;
 
-    fn far(&self, columns: i32, rows: i32) -> u32 {
-        by_greater_and_lesser(columns, rows, 1, 0)
-    }
+    ghost numbers = { chessboard };
 
-    fn is_steady(&self) -> bool {
-        true
-    }
+    ghost from_weights = { chessboard_by_weights };
 
-    fn splits(&self) -> bool {
-        DIAGONAL == 2 * STRAIGHT
-    }
+    ghost keeps = { chessboard_lawful };
 }

@@ -1,38 +1,23 @@
 ghost use Rattle.metric.specs.Metrics.{city_block};
-ghost use Rattle.metric.specs.Steady.{city_block_lawful};
+ghost use Rattle.metric.specs.Steady.{city_block_lawful, city_block_by_weights};
 
-use crate::Metric;
-use crate::ranges::{at_every_level, by_greater_and_lesser};
-
-const STRAIGHT: u32 = 1;
-
-const DIAGONAL: u32 = 2;
+use crate::steady::Steady;
 
 #[derive(Clone, Copy)]
 pub struct CityBlock;
 
-impl Metric for CityBlock {
-    ghost model = { λ _. city_block };
+impl Steady for CityBlock {
+    ghost STRAIGHT = { 1 };
 
-    ghost lawful = { λ _. city_block_lawful };
+    ghost DIAGONAL = { 2 };
 
-    fn straight(&self, level: u32) -> u32 {
-        at_every_level(level, STRAIGHT)
-    }
+    const STRAIGHT: u32 = 1;
 
-    fn diagonal(&self, level: u32) -> u32 {
-        at_every_level(level, DIAGONAL)
-    }
+    const DIAGONAL: u32 = 2;
 
-    fn far(&self, columns: i32, rows: i32) -> u32 {
-        by_greater_and_lesser(columns, rows, 1, 1)
-    }
+    ghost numbers = { city_block };
 
-    fn is_steady(&self) -> bool {
-        true
-    }
+    ghost from_weights = { city_block_by_weights };
 
-    fn splits(&self) -> bool {
-        DIAGONAL == 2 * STRAIGHT
-    }
+    ghost keeps = { city_block_lawful };
 }

@@ -10,8 +10,12 @@ pub mod chessboard;
 pub mod city_block;
 mod ranges;
 pub mod squared_euclidean;
+pub mod steady;
 #[cfg(test)]
 mod tests;
+pub mod weights;
+
+use weights::Weights;
 
 // A metric is known by its model, and whoever writes one shows that the model keeps the laws.
 pub trait Metric {
@@ -37,6 +41,17 @@ pub trait Metric {
     // Whether far is a sum over columns and rows, and a diagonal step weighs two straight ones.
     fn splits(&self) -> bool
         ensures { result ≡ (model self.now).splits };
+
+    // Both weights of a level.
+    final fn weights(&self, level: u32) -> Weights
+        ensures straight { result.straight ≡ (model self.now).straight level }
+        ensures diagonal { result.diagonal ≡ (model self.now).diagonal level }
+    {
+        Weights {
+            straight: self.straight(level),
+            diagonal: self.diagonal(level),
+        }
+    }
 
     ghost lawful: { (m : Self) → Lawful (model m) };
 }

@@ -11,7 +11,7 @@ use Rattle.words.specs.Calls.{on}
 use Rattle.words.specs.Values.{values_in}
 use Rattle.reader.specs.Lists.{Line, ended, unended, past_names, past_values, call_on, fault, faulty, or_fault, unless, call_fault, entry_before, entries_from, bad_size, RunList, list_in, lines_of}
 use Rattle.reader.specs.Laws.{sound, line_after, FirstFault, AllSound, ReadTrue, ListsReadTrue}
-use Rattle.words.proofs.Parting.{if_yes}
+use Rattle.std.proofs.lemmas.Bool.{cond-true}
 use Rattle.reader.proofs.Accepting.{in_short}
 
 -- every line from number k on is a call, with its entry
@@ -158,4 +158,4 @@ long : (n : ℕ) → 16384 < n → ltb 16384 n ≡ true
 long n h = grind (arith, nat_tests)
 
 pub lists_read_true : ListsReadTrue
-lists_read_true text = (λ h. if_yes _ _ _ (long (length text) h), λ h. rw (in_short text h) (list_true (lines_of text)))
+lists_read_true text = (λ h. cond-true _ _ _ (long (length text) h), λ h. rw (in_short text h) (list_true (lines_of text)))

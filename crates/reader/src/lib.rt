@@ -3,13 +3,13 @@
 
 ghost use Rattle.std.specs.Prelude.{◌≡◌, false, IfOk};
 ghost use Rattle.reader.specs.Lists.{list_of, bad_size};
-ghost use Rattle.reader.specs.Reading.{with_calls};
+ghost use Rattle.reader.specs.Left.{says, said};
 ghost use Rattle.reader.specs.Laws.{LinesRejoin, ListsReadTrue};
 
-use lines::Reader;
-use list::{Fault, size_of};
+use calls::Calls;
+use lines::Lines;
+use list::{Fault, RunList, size_of};
 use sheet::refusal::Refusal;
-use words::values::Values;
 
 pub mod calls;
 mod lines;
@@ -20,10 +20,10 @@ mod tests;
 // The most bytes of a run list.
 const LONGEST: usize = 16384;
 
-// The values of a run list, once every line of it and then its size are found to be sound; else the first fault.
-pub fn check(text: &[u8]) -> Result<Values, Fault>
-    ensures list { with_calls text.now result ≡ list_of text.now }
-    ensures size { IfOk result (λ values. bad_size values ≡ false) }
+// The run list that a text is, once every line of it and then its size are found to be sound; else the first fault.
+pub fn check(text: &[u8]) -> Result<RunList<'_>, Fault>
+    ensures list { said result ≡ list_of text.now }
+    ensures size { IfOk result (λ list. bad_size (says list).values ≡ false) }
 {
     if text.len() > LONGEST {
         return Err(Fault {
@@ -31,13 +31,16 @@ pub fn check(text: &[u8]) -> Result<Values, Fault>
             line: 0,
         });
     }
-    let mut reader = Reader::new(text);
-    reader.names(b"width,height,metric")?;
-    let values = reader.values()?;
-    reader.names(b"call,row,column,order")?;
-    reader.check_calls()?;
-    size_of(values)?;
-    Ok(values)
+    let mut lines = Lines::of(text);
+    lines.names(b"width,height,metric")?;
+    let values = lines.values()?;
+    lines.names(b"call,row,column,order")?;
+    lines.check_calls()?;
+    Ok(RunList {
+        size: size_of(values)?,
+        metric: values.metric,
+        calls: Calls::left_in(lines),
+    })
 }
 
 // The format says what it should: the lines of a text make it up, a fault is that of the first faulty line, and a list that is

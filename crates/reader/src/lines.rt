@@ -1,22 +1,18 @@
-ghost use Rattle.std.specs.Prelude.{◌+◌, ◌≤◌, length};
+ghost use Rattle.std.specs.Prelude.{◌+◌, ◌<◌, ◌^◌, length};
 
 mod methods;
 
-// A text that is read line by line: where the next line begins, and its number.
+// A line of a text, without the byte that ends it.
 #[derive(Clone, Copy)]
-pub(crate) struct Reader<'a> {
-    text: &'a [u8],
-    at: usize,
-    pub(crate) line: usize,
-    ghost within: { at ≤ length text.now },
-    ghost counted: { line ≤ at + 1 },
+pub(crate) struct Line<'a> {
+    number: usize,
+    bytes: &'a [u8],
 }
 
-// What comes next in a text.
+// The lines of a text in turn: what is left of the text, and the number of its first line.
 #[derive(Clone, Copy)]
-pub(crate) enum Next<'a> {
-    Line(&'a [u8]),
-    // A line without its end.
-    Unended,
-    End,
+pub(crate) struct Lines<'a> {
+    rest: &'a [u8],
+    number: usize,
+    ghost counted: { number + length rest.now < 2 ^ 64 },
 }

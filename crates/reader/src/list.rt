@@ -2,9 +2,11 @@ ghost use Rattle.std.specs.Prelude.{◌≡◌, true, false, MatchResult};
 ghost use Rattle.sheet.specs.declared.refusal.Refusal.TheVariants.{BadSize};
 ghost use Rattle.reader.specs.Lists.{fault, faulty, bad_size};
 
+use crate::calls::Calls;
 use sheet::refusal::Refusal;
 use sheet::size::Size;
 use words::call::Call;
+use words::metric_name::MetricName;
 use words::values::Values;
 
 // The most pixels of a run list's sheet.
@@ -15,6 +17,14 @@ const PIXELS: usize = 2048;
 pub struct Entry {
     pub line: usize,
     pub call: Call,
+}
+
+// A run list: the size of its sheet, its metric and its calls, which stay the part of the text that they were.
+#[derive(Clone, Copy)]
+pub struct RunList<'a> {
+    pub size: Size,
+    pub metric: MetricName,
+    pub calls: Calls<'a>,
 }
 
 // Why a text is no run list, and at which line.

@@ -2,11 +2,11 @@ use crate::calls::Calls;
 use crate::check;
 use crate::list::Entry;
 use sheet::order::Order;
+use sheet::size::Size;
 use std::process::Abort;
 use std::test::Fail;
 use words::call::{Call, CallName, call_of, order_of};
 use words::metric_name::MetricName;
-use words::values::Values;
 
 // A run list with these values and these calls.
 macro_rules! list {
@@ -15,18 +15,16 @@ macro_rules! list {
     };
 }
 
-// The refusal and the line of a text, two zeros where it is accepted.
-fn fault(text: &str) -> (u32, usize) {
-    match check(text.as_bytes()) {
-        Ok(_) => (0, 0),
-        Err(fault) => (fault.refusal.number(), fault.line),
-    }
+// The number of the refusal and the line for which a text is refused.
+fn fault(text: &str) -> Option<(u32, usize)> {
+    let fault = check(text.as_bytes()).err()?;
+    Some((u32::from(fault.refusal), fault.line))
 }
 
-// All texts have this refusal at this line.
-fn all_give(rt: &impl Abort, refusal: u32, line: usize, texts: &[&str]) {
+// All texts end so.
+fn all_give(rt: &impl Abort, expected: Option<(u32, usize)>, texts: &[&str]) {
     for text in texts {
-        assert_eq!(rt; fault(text), (refusal, line), "{}", *text);
+        assert_eq!(rt; fault(text), expected, "{}", *text);
     }
 }
 
@@ -36,12 +34,9 @@ fn worked_list(rt: HostRuntime) -> Result<(), Fail> {
         "4,2,euclid",
         "r,0,3,-\ns,0,0,-\nt,0,0,p\nr,1,3,-\np,0,0,-\no,0,0,-\ns,0,3,-\nt,0,0,r\nt,0,0,d\n"
     );
-    let values = Values {
-        width: 4,
-        height: 2,
-        metric: MetricName::Euclid,
-    };
-    assert_eq!(rt; check(text.as_bytes()), Ok(values));
+    let list = check(text.as_bytes())?;
+    assert_eq!(rt; list.size, Size::new(4, 2)?);
+    assert_eq!(rt; list.metric, MetricName::Euclid);
     let calls = [
         Call::Read { row: 0, column: 3 },
         Call::Strike { row: 0, column: 0 },
@@ -53,6 +48,7 @@ fn worked_list(rt: HostRuntime) -> Result<(), Fail> {
         Call::Settle(Order::Raster),
         Call::Settle(Order::Directional),
     ];
+    let mut checked = list.calls;
     let mut list = Calls::of(text.as_bytes());
     for (i, call) in calls.iter().enumerate() {
         let entry = Entry {
@@ -60,8 +56,10 @@ fn worked_list(rt: HostRuntime) -> Result<(), Fail> {
             call: *call,
         };
         assert_eq!(rt; list.next(), Some(entry));
+        assert_eq!(rt; checked.next(), Some(entry));
     }
     assert_eq!(rt; list.next(), None);
+    assert_eq!(rt; checked.next(), None);
     Ok(())
 }
 
@@ -83,7 +81,7 @@ fn accepted(rt: HostRuntime) -> Result<(), Fail> {
         list!("1024,2,city", ""),
         list!("4,2,city", "s,9999,0000,-\n"),
     ];
-    all_give(&rt, 0, 0, &texts);
+    all_give(&rt, None, &texts);
     Ok(())
 }
 
@@ -95,7 +93,7 @@ fn faulty_head(rt: HostRuntime) -> Result<(), Fail> {
         "width,height,metric\r\n4,2,city\n",
         "names\nvalues\nnames\ncall",
     ];
-    all_give(&rt, 7, 1, &first);
+    all_give(&rt, Some((7, 1)), &first);
     let second = [
         "width,height,metric\n",
         "width,height,metric\n4,2,city",
@@ -105,13 +103,13 @@ fn faulty_head(rt: HostRuntime) -> Result<(), Fail> {
         list!("4,2,city,", ""),
         list!("4,2", ""),
     ];
-    all_give(&rt, 8, 2, &second);
+    all_give(&rt, Some((8, 2)), &second);
     let third = [
         "width,height,metric\n4,2,city\n",
         "width,height,metric\n4,2,city\ncall,row,column,order",
         "width,height,metric\n4,2,city\ncall,row,column,orders\n",
     ];
-    all_give(&rt, 7, 3, &third);
+    all_give(&rt, Some((7, 3)), &third);
     Ok(())
 }
 
@@ -132,7 +130,7 @@ fn faulty_calls(rt: HostRuntime) -> Result<(), Fail> {
         list!("4,2,city", "x,0,0,-\n"),
         list!("1025,1,city", "t,0,0\np,0,0,-\n\n"),
     ];
-    all_give(&rt, 8, 4, &texts);
+    all_give(&rt, Some((8, 4)), &texts);
     Ok(())
 }
 
@@ -144,7 +142,7 @@ fn bad_sizes(rt: HostRuntime) -> Result<(), Fail> {
         list!("1,1025,city", ""),
         list!("683,3,city", "p,0,0,-\n"),
     ];
-    all_give(&rt, 1, 2, &texts);
+    all_give(&rt, Some((1, 2)), &texts);
     Ok(())
 }
 
@@ -155,8 +153,8 @@ fn longest(rt: HostRuntime) -> Result<(), Fail> {
         text.push_str("s,0,0,-\n")?;
     }
     assert_eq!(rt; text.len(), 16384);
-    assert_eq!(rt; fault(text.as_str()), (0, 0));
+    assert_eq!(rt; fault(text.as_str()), None);
     text.push('x')?;
-    assert_eq!(rt; fault(text.as_str()), (9, 0));
+    assert_eq!(rt; fault(text.as_str()), Some((9, 0)));
     Ok(())
 }

@@ -3,14 +3,16 @@
 #![tactic(auto)]
 
 mod measure;
-mod pictures;
-mod search;
 
-use anyhow::anyhow;
-use measure::{Case, ORDERS, Order};
-use pictures::{RING_HEIGHT, RING_WIDTH, Random};
-use search::{FORMULAS, Formula};
+use anyhow::Context;
+use measure::{Case, ORDERS};
+use pictures::formula::{FORMULAS, Formula};
+use pictures::picture::Picture;
+use pictures::random::Random;
+use pictures::readings::{compare, peak};
+use sheet::order::Order;
 use sheet::size::Size;
+use std::alloc::Global;
 
 // The sides of the small pictures go from 1 to this.
 const SMALL: usize = 8;
@@ -18,62 +20,35 @@ const SMALL: usize = 8;
 // One pixel in so many of a small picture is air: all of them, some, none.
 const RARITIES: [u64; 5] = [1, 2, 5, 20, 0];
 
-// Prints every second row of a picture.
-fn draw(rt: &HostRuntime, case: &Case) -> anyhow::Result<()> {
-    let mut line = String::new(rt.alloc());
-    for (place, byte) in case.picture.iter().enumerate() {
-        if place / case.size.width % 2 == 0 {
-            line.push(if *byte == 0 { '.' } else { '#' })?;
-        }
-        if place % (2 * case.size.width) == 2 * case.size.width - 1 {
-            println!(rt; "{line}")?;
-            line = String::new(rt.alloc());
-        }
-    }
-    Ok(())
-}
-
-// An error where a pixel differs.
-fn none_wrong(rt: &HostRuntime, name: &str, wrong: Option<usize>) -> anyhow::Result<()> {
-    if let Some(place) = wrong {
-        println!(rt; "{name}: the pixel at place {place} differs")?;
-        return Err(anyhow!("a pixel differs"));
-    }
-    Ok(())
-}
-
-// Settles a picture by a metric and every order that admits it, and gives the counts, nothing for a refused order. An error
-// where a pixel differs from the search, or from what another order gave.
+// Settles a picture by a metric and every order, and gives each order's count, nothing where the order does not admit the metric.
+// An error where a pixel differs from the search, or from what another order gave.
 fn settle_by_all(
-    rt: &HostRuntime,
+    heap: Global,
     case: &mut Case,
     formula: Formula,
-) -> anyhow::Result<[Option<u64>; 3]> {
-    let mut counts = [None; 3];
+) -> anyhow::Result<Vec<(Order, Option<u64>)>> {
+    let searched = case.picture.readings(heap, formula)?;
     let mut first: Option<Vec<u64>> = None;
-    for (i, order) in ORDERS.iter().enumerate() {
-        if let Ok(count) = case.settle(formula, *order) {
-            none_wrong(rt, formula.name(), case.first_wrong(formula))?;
-            if let Some(others) = &first {
-                none_wrong(rt, formula.name(), case.first_other(others.as_slice()))?;
-            } else {
-                first = Some(case.keys()?);
-            }
-            if i < 3 {
-                counts[i] = Some(count);
-            }
+    let mut counts = Vec::new(heap);
+    for order in ORDERS {
+        let count = case.settle(formula, order).ok();
+        if count.is_some() {
+            let readings = case.readings(heap)?;
+            compare(readings.as_slice(), searched.as_slice()).context(formula)?;
+            let others = first.get_or_insert(case.keys.clone()?);
+            compare(case.keys.as_slice(), others.as_slice()).context(formula)?;
         }
+        counts.push((order, count))?;
     }
     Ok(counts)
 }
 
 // Prints the count of each order.
-fn print_counts(rt: &HostRuntime, counts: &[Option<u64>; 3]) -> anyhow::Result<()> {
-    for (order, count) in ORDERS.iter().zip(counts.iter()) {
-        let name = order.name();
+fn print_counts(rt: &HostRuntime, counts: &[(Order, Option<u64>)]) -> anyhow::Result<()> {
+    for (order, count) in counts {
         match count {
-            Some(count) => println!(rt; "  {name} order: count {count}")?,
-            None => println!(rt; "  {name} order: refused, it does not admit the metric")?,
+            Some(count) => println!(rt; "  {order} order: count {count}")?,
+            None => println!(rt; "  {order} order: refused, it does not admit the metric")?,
         }
     }
     Ok(())
@@ -81,23 +56,21 @@ fn print_counts(rt: &HostRuntime, counts: &[Option<u64>; 3]) -> anyhow::Result<(
 
 // Measures the ring, with some lines for each metric.
 fn measure_ring(rt: &HostRuntime) -> anyhow::Result<()> {
-    let Ok(size) = Size::new(RING_WIDTH, RING_HEIGHT) else {
-        return Err(anyhow!("the ring's size was refused"));
-    };
-    let mut case = Case::new(rt.alloc(), size, pictures::ring(rt.alloc())?)?;
-    draw(rt, &case)?;
+    let mut case = Case::new(rt.alloc(), Picture::ring(rt.alloc())?)?;
+    let drawing = case.picture.drawing(rt.alloc())?;
+    print!(rt; "{drawing}")?;
+    let size = case.picture.size;
     let Size { width, height } = size;
     let pixels = size.pixels();
-    let air = case.air_count();
+    let air = case.picture.air_count();
     let carbon = pixels.saturating_sub(air);
     for formula in FORMULAS {
-        let counts = settle_by_all(rt, &mut case, formula)?;
-        let name = formula.name();
-        println!(rt; "{name}: {width} x {height}, {air} air and {carbon} carbon pixels")?;
-        print_counts(rt, &counts)?;
-        if let Some((distance, place)) = case.deepest() {
-            let row = place / width;
-            let column = place % width;
+        let counts = settle_by_all(rt.alloc(), &mut case, formula)?;
+        println!(rt; "{formula}: {width} x {height}, {air} air and {carbon} carbon pixels")?;
+        print_counts(rt, counts.as_slice())?;
+        if let Some((distance, place)) = peak(case.readings(rt.alloc())?.as_slice()) {
+            let row = place / width as u64;
+            let column = place % width as u64;
             println!(rt; "  deepest pixel: distance {distance} at row {row}, column {column}")?;
         }
         println!(rt;
@@ -109,21 +82,15 @@ fn measure_ring(rt: &HostRuntime) -> anyhow::Result<()> {
 
 // The greatest sheet with air in one corner, by squared Euclidean distance and the directional order.
 fn measure_corner(rt: &HostRuntime) -> anyhow::Result<()> {
-    let Ok(size) = Size::new(1024, 1024) else {
-        return Err(anyhow!("the greatest size was refused"));
-    };
-    let mut case = Case::new(rt.alloc(), size, pictures::corner(rt.alloc(), size)?)?;
-    match case.settle(Formula::SquaredEuclidean, Order::Directional) {
-        Ok(count) => {
-            if let Some((distance, place)) = case.deepest() {
-                println!(rt;
-                    "1024 x 1024 with air in one corner, squared Euclidean, directional: count {count}, distance {distance} at place {place}"
-                )?;
-            }
-            Ok(())
-        }
-        Err(_) => Err(anyhow!("the greatest sheet was refused")),
+    let size = Size::new(1024, 1024)?;
+    let mut case = Case::new(rt.alloc(), Picture::corner(rt.alloc(), size)?)?;
+    let count = case.settle(Formula::SquaredEuclidean, Order::Directional)?;
+    if let Some((distance, place)) = peak(case.readings(rt.alloc())?.as_slice()) {
+        println!(rt;
+            "1024 x 1024 with air in one corner, squared Euclidean, directional: count {count}, distance {distance} at place {place}"
+        )?;
     }
+    Ok(())
 }
 
 // Measures small pictures of every shape.
@@ -133,14 +100,12 @@ fn measure_small(rt: &HostRuntime) -> anyhow::Result<()> {
     let mut pixels = 0u64;
     for height in 1..=SMALL {
         for width in 1..=SMALL {
-            let Ok(size) = Size::new(width, height) else {
-                return Err(anyhow!("a small size was refused"));
-            };
+            let size = Size::new(width, height)?;
             for rarity in RARITIES {
                 let picture = random.picture(rt.alloc(), size, rarity)?;
-                let mut case = Case::new(rt.alloc(), size, picture)?;
+                let mut case = Case::new(rt.alloc(), picture)?;
                 for formula in FORMULAS {
-                    settle_by_all(rt, &mut case, formula)?;
+                    settle_by_all(rt.alloc(), &mut case, formula)?;
                 }
                 pictures = pictures.saturating_add(1);
                 pixels = pixels.saturating_add(size.pixels() as u64);

@@ -1,11 +1,11 @@
 -- The calls of a list, made one after another.
-use Rattle.std.proofs.Common.{◌≡◌, ℕ, ◌*◌, ◌≤◌, Bool, false, ◌||◌, List, [], ◌∷◌, ◌++◌, length, replicate, is_some, Some, None, Option, Result, sym, ap, ◌∙◌, subst, le_refl, arith}
+use Rattle.std.proofs.Common.{◌≡◌, ℕ, ◌*◌, ◌≤◌, Bool, false, ◌||◌, List, [], ◌∷◌, ◌++◌, length, replicate, is_some, refl, None, Ok, Err, IsOk, Option, Result, sym, ap, ◌∙◌, subst, le_refl, arith}
 use lib.ListN.{length-replicate}
 use Rattle.std.proofs.lemmas.Bool.{le-ltb, true≢false}
 use Rattle.std.proofs.lemmas.Bool.Decides.{nat_tests}
 use Rattle.sheet.specs.declared.refusal.Refusal.{Refusal}
 use Rattle.sheet.specs.declared.size.Size.{Size}
-use Rattle.sheet.specs.Refusals.{bad_side}
+use Rattle.sheet.specs.Refusals.{bad_side, Answers}
 use Rattle.sheet.proofs.Answered.{check_passed}
 use Rattle.metric.specs.Model.{Model}
 use Rattle.erosion.specs.Memory.{Fits}
@@ -68,5 +68,7 @@ opens size picture keys is fits =
     both : (a b : Bool) → a ≡ false → b ≡ false → (a || b) ≡ false
     both a b e f = grind (arith, nat_tests)
 
-pub some≢none : {A : Type 0} {x : A} → ◌≡◌ {A = Option A} (Some x) None → ⊥
-some≢none e = true≢false (ap is_some e)
+-- a call that has nothing to refuse accepts
+pub accepts : {A : Type 0} (due : Option Refusal) (kept : Type 0) (given : A → Type 0) (r : Result A Refusal) → Answers due kept given r → due ≡ None → IsOk r
+accepts due kept given (Ok a) h e = refl
+accepts due kept given (Err x) h e = absurd (true≢false (ap is_some (sym h.0 ∙ e)))

@@ -17,8 +17,7 @@ use Rattle.reader.specs.declared.list.Entry.{Entry}
 use Rattle.reader.specs.declared.list.Fault.{Fault}
 use Rattle.reader.specs.Lists.{RunList}
 use Rattle.writer.specs.declared.answer.Answer.{Answer}
-use Rattle.writer.specs.declared.answer.Outcome.{Outcome}
-use Rattle.writer.specs.declared.answer.Outcome.TheVariants.{Given, Absent, Refused}
+use Rattle.writer.specs.declared.answer.Figures.{Figures}
 
 -- the metric of a name
 abbrev pub model_of : MetricName → Model
@@ -36,18 +35,22 @@ request_in m (Read row column) = reads row column
 request_in m Peak = peaks
 request_in m Reopen = reopens
 
--- the figures of a distance and the place of a pixel on a sheet w wide, which may be absent
-abbrev pub figures : ℕ → Option (ℕ × ℕ) → Outcome
-figures w None = Absent
-figures w (Some found) = Given (record { distance = found.0; row = found.1 / w; column = found.1 % w })
+-- the figures of a distance and the place of a pixel on a sheet w wide, where there are any
+abbrev pub figures : ℕ → Option (ℕ × ℕ) → Option Figures
+figures w None = None
+figures w (Some found) = Some (record { distance = found.0; row = found.1 / w; column = found.1 % w })
 
 -- the figures of what a call gave: a settling its count, 0 and 0; all zeros where there is nothing to tell
-abbrev pub outcome_of : ℕ → Result GivenAnswer Refusal → Outcome
-outcome_of w (Ok Done) = Given (record { distance = 0; row = 0; column = 0 })
-outcome_of w (Ok (Counted count)) = Given (record { distance = count; row = 0; column = 0 })
-outcome_of w (Ok (Reading reading)) = figures w reading
-outcome_of w (Ok (Highest peak)) = figures w peak
-outcome_of w (Err refusal) = Refused refusal
+abbrev pub figures_of : ℕ → GivenAnswer → Option Figures
+figures_of w Done = Some (record { distance = 0; row = 0; column = 0 })
+figures_of w (Counted count) = Some (record { distance = count; row = 0; column = 0 })
+figures_of w (Reading reading) = figures w reading
+figures_of w (Highest peak) = figures w peak
+
+-- how a call ended: with figures, or refused
+abbrev pub outcome_of : ℕ → Result GivenAnswer Refusal → Result (Option Figures) Refusal
+outcome_of w (Ok given) = Ok (figures_of w given)
+outcome_of w (Err refusal) = Err refusal
 
 -- the answer to the call of a line
 abbrev pub answer_to : ℕ → Entry → Event → Answer
@@ -80,7 +83,7 @@ Ran width height m entries answers = (bench : Bench) × (picture : List ℕ) × 
 
 -- the answer with a fault: its line, and the refusal
 abbrev pub fault_answer : Fault → Answer
-fault_answer due = record { line = due.line; outcome = Refused due.refusal }
+fault_answer due = record { line = due.line; outcome = Err due.refusal }
 
 -- the answers to a text: those of its run, or where it is refused one answer with the fault
 abbrev pub AnswersTo : Result RunList Fault → List Answer → Type 0

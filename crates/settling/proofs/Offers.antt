@@ -1,5 +1,5 @@
--- What offers do to keys and to a front: nothing, one after another, and one.
-use Rattle.std.proofs.Common.{◌≡◌, ℕ, ◌+◌, ◌<◌, ◌≤◌, Bool, true, false, cond, ◌||◌, ltb, List, length, get_or, set, sum_by, sum, refl, ◌∙◌, ⊎_elim, le_trans, le_refl, arith, length-set}
+-- What offers do to keys and to a front: one after another, and one.
+use Rattle.std.proofs.Common.{◌≡◌, ℕ, ◌+◌, ◌<◌, ◌≤◌, Bool, true, false, cond, ◌||◌, ltb, List, length, get_or, set, sum_by, sum, ◌∙◌, ⊎_elim, le_trans, arith, length-set}
 use Rattle.std.proofs.lemmas.List.{get_or-set_same, get_or-set_other}
 use Rattle.std.proofs.lemmas.List.Sums.{sum_by-set}
 use Rattle.std.proofs.lemmas.Bool.{cases_eq}
@@ -21,9 +21,6 @@ many_set : (ws : List Bool) (q : ℕ) → q < length ws → many (set ws q true)
 many_set ws q l =
     let e : sum_by (λ b. cond {A = ℕ} b 1 0) (set ws q true) + cond {A = ℕ} (get_or ws q false) 1 0 ≡ sum_by (λ b. cond {A = ℕ} b 1 0) ws + 1 = sum_by-set (λ b. cond {A = ℕ} b 1 0) ws q true false l in
     omega arith
-
-pub relaxed_none : (ks : List ℕ) (ws : List Bool) → Relaxed ks ks ws ws
-relaxed_none ks ws = record { falls = λ k. le_refl _; put = λ k. flag_kept _ _; same_size = refl; less = le_refl _ }
 
 pub relaxed_then : (ks is js : List ℕ) (us vs ws : List Bool) → Relaxed ks is us vs → Relaxed is js vs ws → Relaxed ks js us ws
 relaxed_then ks is js us vs ws r s = record {

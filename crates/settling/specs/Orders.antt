@@ -9,7 +9,7 @@ use Rattle.sheet.specs.Images.{image_of}
 use Rattle.sheet.specs.Refusals.{check, passed}
 use Rattle.metric.specs.Model.{Model}
 use Rattle.front.specs.Waiting.{idle, many}
-use Rattle.erosion.specs.Memory.{needs_memory}
+use Rattle.erosion.specs.Memory.{needs_all}
 use Rattle.erosion.specs.Rounds.{CountsRounds, CountsPhases}
 use Rattle.settling.specs.Spreading.{too_small}
 
@@ -30,8 +30,8 @@ unfit Free size waits = too_small size waits || nat_lt 0 (many waits)
 -- the refusal of a settling: first for memory, then for the metric, then for the front
 abbrev pub settle_refusal : Order → Model → Size → List ℕ → List ℕ → List ℕ → List Bool → Option Refusal
 settle_refusal order m size picture keys spare waits =
-    needs_memory size picture (needs_memory size keys (needs_memory size spare
-    (check (not (admits order m)) NotAdmitted (check (unfit order size waits) UnfitFront passed))))
+    needs_all size picture keys spare
+    (check (not (admits order m)) NotAdmitted (check (unfit order size waits) UnfitFront passed))
 
 -- the count of a free settling: at least as many as there are pixels where there is air, else 0
 pub record CountsTakes (size : Size) (picture : List ℕ) (count : ℕ) : Type 0 where

@@ -5,7 +5,7 @@ use Rattle.sheet.specs.Pixels.{place_of, apart, ring, weight_of}
 use Rattle.sheet.specs.Keys.{blank, stepped}
 use Rattle.sheet.specs.Images.{image_of}
 use Rattle.front.specs.Waiting.{many}
-use Rattle.settling.specs.Spreading.{LoweredWait}
+use Rattle.settling.specs.Spreading.{HasRoom, LoweredWait}
 
 -- what one or more offers do: keys only fall, and lowered places are put
 pub record Relaxed (keys keys' : List ℕ) (waits waits' : List Bool) : Type 0 where
@@ -29,7 +29,7 @@ resting keys waits (suc n) = cond (at_rest keys waits n) 1 0 + resting keys wait
 -- what holds between two takes: no place past the sheet waits, a pixel that does not wait can lower no neighbour, and each
 -- pixel that has a key and does not wait was taken
 pub record BetweenTakes (size : Size) (straight diagonal : ℕ) (keys : List ℕ) (waits : List Bool) (tally : ℕ) : Type 0 where
-  pub room : size.width * size.height ≤ length waits
+  pub room : HasRoom size waits
   pub inside : (k : ℕ) → size.width * size.height ≤ k → slice_index_or waits k false ≡ false
   pub quiet : (r c r' c' : ℕ) → r < size.height → c < size.width → r' < size.height → c' < size.width → ring r c r' c' ≡ 1 → slice_index_or waits (place_of size.width r' c') false ≡ false →
       image_of size.width keys r c ≤ stepped (image_of size.width keys r' c') (weight_of straight diagonal (apart c c') (apart r r'))

@@ -1,4 +1,5 @@
-// The free order: places that wait offer their keys to their neighbours, in whatever sequence the front hands them out.
+// The free order: places that wait offer their keys to their neighbours, in whatever sequence the front hands them out. Keys stand
+// beside their size and the front: the grid of `erosion` is its own, and made public would have to serve other callers than this.
 ghost use Rattle.std.specs.Prelude.{◌≡◌, ℕ, ◌+◌, ◌-◌, ◌*◌, ◌/◌, ◌<◌, ◌≤◌, min, true, false, ◌||◌, length, ◌==◌, ◌≢◌, nat_le, slice_index, slice_index_or};
 ghost use Rattle.sheet.specs.Images.{Image, image_of};
 ghost use Rattle.sheet.specs.Refusals.{Answers, check, passed};
@@ -8,13 +9,15 @@ ghost use Rattle.front.specs.Waiting.{NoneWaits, idle};
 ghost use Rattle.transform.specs.Free.{spread, Stable, Below};
 ghost use Rattle.erosion.specs.Memory.{Fits, On, Shows, past, needs_memory};
 ghost use Rattle.erosion.specs.Rounds.{Settles};
-ghost use Rattle.settling.specs.Spreading.{Spread, too_small};
+ghost use Rattle.settling.specs.Spreading.{HasRoom, Spread, too_small};
 ghost use Rattle.settling.specs.Within.{Relaxed, offered, BetweenTakes};
 ghost use Rattle.settling.specs.Orders.{settle_refusal, CountsTakes, LeavesFront};
 
+use erosion::memory::check_all;
 use erosion::start::start;
 use front::Front;
 use metric::Metric;
+use metric::weights::Weights;
 use sheet::key;
 use sheet::refusal::Refusal;
 use sheet::size::Size;
@@ -25,7 +28,7 @@ const UNIT: u64 = 4294967296;
 // Offers a key to a pixel: one that has a greater key gets it and is put.
 fn offer<F: Front>(size: Size, keys: &mut [u64], front: &mut F, row: usize, column: usize, key: u64)
     requires fits { Fits size keys.old }
-    requires room { size.width * size.height ≤ length (F.waits front.old) }
+    requires room { HasRoom size (F.waits front.old) }
     requires on { On size row column }
     ensures pixel { image_of size.width keys.new row column ≡ min (image_of size.width keys.old row column) key }
     ensures others { (r c : ℕ) → c < size.width → (r ≡ row → c ≢ column) → image_of size.width keys.new r c ≡ image_of size.width keys.old r c }
@@ -52,7 +55,7 @@ fn spread_row<F: Front>(
     side: u64,
 )
     requires fits { Fits size keys.old }
-    requires room { size.width * size.height ≤ length (F.waits front.old) }
+    requires room { HasRoom size (F.waits front.old) }
     requires on { On size row column }
     ensures line { (c : ℕ) → c < size.width → image_of size.width keys.new row c ≡ offered middle side column (image_of size.width keys.old row) c }
     ensures others { (r c : ℕ) → c < size.width → (r ≢ row) → image_of size.width keys.new r c ≡ image_of size.width keys.old r c }
@@ -74,20 +77,19 @@ fn spread_from<F: Front>(
     front: &mut F,
     row: usize,
     column: usize,
-    straight: u32,
-    diagonal: u32,
+    weights: Weights,
 )
     requires fits { Fits size keys.old }
-    requires room { size.width * size.height ≤ length (F.waits front.old) }
+    requires room { HasRoom size (F.waits front.old) }
     requires on { On size row column }
-    ensures image { Shows size keys.new (spread straight diagonal (image_of size.width keys.old) row column) }
+    ensures image { Shows size keys.new (spread weights.straight weights.diagonal (image_of size.width keys.old) row column) }
     ensures rest { past size keys.new ≡ past size keys.old }
     ensures relaxed { Relaxed keys.old keys.new (F.waits front.old) (F.waits front.new) }
     ensures tally { F.tally front.new ≡ F.tally front.old }
 {
     let key = keys[row * size.width + column];
-    let near = key::step(key, straight);
-    let across = key::step(key, diagonal);
+    let near = key::step(key, weights.straight);
+    let across = key::step(key, weights.diagonal);
     for at in row.saturating_sub(1)..(row + 2).min(size.height) {
         let (middle, side) = if at == row {
             (key, near)
@@ -105,13 +107,12 @@ pub fn spread<F: Front>(
     front: &mut F,
     row: usize,
     column: usize,
-    straight: u32,
-    diagonal: u32,
+    weights: Weights,
 ) -> Result<(), Refusal>
     ensures { Answers
         (needs_memory size keys.old (check (nat_le size.height row || nat_le size.width column) OutOfRange (check (too_small size (F.waits front.old)) UnfitFront passed)))
         ((keys.new ≡ keys.old) × (front.new ≡ front.old))
-        (λ _. Spread size straight diagonal row column keys.old keys.new (F.waits front.old) (F.waits front.new) × (F.tally front.new ≡ F.tally front.old))
+        (λ _. Spread size weights.straight weights.diagonal row column keys.old keys.new (F.waits front.old) (F.waits front.new) × (F.tally front.new ≡ F.tally front.old))
         result }
 {
     size.check_memory(keys.len())?;
@@ -119,22 +120,22 @@ pub fn spread<F: Front>(
     if front.count().size < size.pixels() {
         return Err(Refusal::UnfitFront);
     }
-    spread_from(size, keys, front, row, column, straight, diagonal);
+    spread_from(size, keys, front, row, column, weights);
     Ok(())
 }
 
 // Puts every air place into an empty front.
 fn put_air<F: Front>(size: Size, picture: &[u8], front: &mut F)
     requires picture { Fits size picture.now }
-    requires room { size.width * size.height ≤ length (F.waits front.old) }
+    requires room { HasRoom size (F.waits front.old) }
     requires empty { NoneWaits (F.waits front.old) }
     ensures air { (k : ℕ) → k < size.width * size.height → slice_index_or (F.waits front.new) k false ≡ (slice_index picture.now k == 0) }
     ensures rest { (k : ℕ) → size.width * size.height ≤ k → slice_index_or (F.waits front.new) k false ≡ false }
     ensures size { length (F.waits front.new) ≡ length (F.waits front.old) }
     ensures tally { F.tally front.new ≡ F.tally front.old }
 {
-    for place in 0..size.pixels() {
-        if picture[place] == 0 {
+    for (place, byte) in picture[..size.pixels()].iter().enumerate() {
+        if *byte == 0 {
             let _ = front.put(place);
         }
     }
@@ -152,22 +153,22 @@ fn row_of(size: Size, inverse: u64, place: usize) -> usize
 }
 
 // Takes place after place until nothing waits; each offers its key to its neighbours.
-fn spread_all<F: Front>(size: Size, keys: &mut [u64], front: &mut F, straight: u32, diagonal: u32)
+fn spread_all<F: Front>(size: Size, keys: &mut [u64], front: &mut F, weights: Weights)
     requires fits { Fits size keys.old }
-    requires between { BetweenTakes size straight diagonal keys.old (F.waits front.old) (F.tally front.old) }
-    ensures between { BetweenTakes size straight diagonal keys.new (F.waits front.new) (F.tally front.new) }
+    requires between { BetweenTakes size weights.straight weights.diagonal keys.old (F.waits front.old) (F.tally front.old) }
+    ensures between { BetweenTakes size weights.straight weights.diagonal keys.new (F.waits front.new) (F.tally front.new) }
     ensures empty { NoneWaits (F.waits front.new) }
     ensures size { length (F.waits front.new) ≡ length (F.waits front.old) }
     ensures rest { past size keys.new ≡ past size keys.old }
     ensures falls { (k : ℕ) → slice_index keys.new k ≤ slice_index keys.old k }
-    ensures above { (goal : Image) → Stable size.height size.width straight diagonal goal → Below size.height size.width goal (image_of size.width keys.old) → Below size.height size.width goal (image_of size.width keys.new) }
+    ensures above { (goal : Image) → Stable size.height size.width weights.straight weights.diagonal goal → Below size.height size.width goal (image_of size.width keys.old) → Below size.height size.width goal (image_of size.width keys.new) }
     ensures still { NoneWaits (F.waits front.old) → F.tally front.new ≡ F.tally front.old }
 {
     let inverse = UNIT / size.width as u64 + 1;
     while let Some(place) = front.take() {
         let row = row_of(size, inverse, place);
         let column = place - row * size.width;
-        spread_from(size, keys, front, row, column, straight, diagonal);
+        spread_from(size, keys, front, row, column, weights);
     }
 }
 
@@ -183,19 +184,18 @@ fn run_front<M: Metric, F: Front>(
     requires picture { Fits size picture.now }
     requires keys { Fits size keys.old }
     requires spare { Fits size spare.old }
-    requires room { size.width * size.height ≤ length (F.waits front.old) }
+    requires room { HasRoom size (F.waits front.old) }
     requires steady { (M.model metric.now).steady ≡ true }
     ensures settles { Settles (M.model metric.now) size picture.now keys.old keys.new spare.old spare.new }
     ensures counts { CountsTakes size picture.now result }
     ensures waits { F.waits front.new ≡ idle (length (F.waits front.old)) }
     ensures tally { F.tally front.new ≡ result }
 {
-    let straight = metric.straight(1);
-    let diagonal = metric.diagonal(1);
+    let weights = metric.weights(1);
     let _ = start(size, picture, keys);
     front.start();
     put_air(size, picture, front);
-    spread_all(size, keys, front, straight, diagonal);
+    spread_all(size, keys, front, weights);
     let pixels = size.pixels();
     spare[0..pixels].copy_from_slice(&keys[0..pixels]);
     front.count().tally
@@ -219,9 +219,7 @@ pub fn settle<M: Metric, F: Front>(
         × LeavesFront Free count (F.waits front.old) (F.tally front.old) (F.waits front.new) (F.tally front.new))
         result }
 {
-    size.check_memory(picture.len())?;
-    size.check_memory(keys.len())?;
-    size.check_memory(spare.len())?;
+    check_all(size, picture, keys, spare)?;
     if !metric.is_steady() {
         return Err(Refusal::NotAdmitted);
     }

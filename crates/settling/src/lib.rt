@@ -19,7 +19,8 @@ pub mod free;
 mod tests;
 
 // Settles a picture: the first n keys get the settled image, and so does the spare. Gives the count of the order.
-// Only the free order uses the front.
+// Only the free order uses the front. Memory is lent in slices, each a parameter: what a struct of them held afterwards could be said
+// only by its fields' places.
 pub fn settle<M: Metric, F: Front>(
     size: Size,
     metric: &M,
@@ -38,6 +39,7 @@ pub fn settle<M: Metric, F: Front>(
         result }
     ensures untouched { (order ≢ Free) → front.new ≡ front.old }
 {
+    // a match: the order comes from a run list as a value, and each has a function of its own
     match order {
         Order::Parallel => parallel::settle(size, metric, picture, keys, spare),
         Order::Directional => directional::settle(size, metric, picture, keys, spare),

@@ -4,6 +4,7 @@ use front::mark_front::MarkFront;
 use front::queue_front::QueueFront;
 use metric::chamfer::Chamfer;
 use metric::squared_euclidean::SquaredEuclidean;
+use metric::weights::Weights;
 use sheet::key;
 use sheet::order::Order;
 use sheet::refusal::Refusal;
@@ -146,13 +147,17 @@ fn one_step(rt: HostRuntime) -> Result<(), Fail> {
     let mut keys = [0, 1, key::BLANK];
     let mut marks = [0; 3];
     let mut front = MarkFront::over(3, &mut marks);
-    free::spread(size, &mut keys, &mut front, 0, 1, 3, 4)?;
+    let weights = Weights {
+        straight: 3,
+        diagonal: 4,
+    };
+    free::spread(size, &mut keys, &mut front, 0, 1, weights)?;
     assert_eq!(rt; keys[0], 0);
     assert_eq!(rt; key::reading(keys[2]), Some((3, 1)));
     assert_eq!(rt; front.count().waiting, 1);
     assert_eq!(rt; front.take(), Some(2));
     assert_eq!(rt;
-        free::spread(size, &mut keys, &mut front, 1, 0, 3, 4),
+        free::spread(size, &mut keys, &mut front, 1, 0, weights),
         Err(Refusal::OutOfRange)
     );
     Ok(())

@@ -1,5 +1,5 @@
 -- How calls refuse.
-use Rattle.std.specs.Prelude.{◌≡◌, ℕ, Bool, cond, ◌||◌, Some, None, Ok, Err, Option, Result, ◌==◌, nat_lt}
+use Rattle.std.specs.Prelude.{◌≡◌, ℕ, Bool, cond, ◌||◌, List, Some, None, Ok, Err, Option, Result, ◌==◌, nat_lt, codes}
 use Rattle.sheet.specs.declared.refusal.Refusal.{Refusal}
 use Rattle.sheet.specs.declared.refusal.Refusal.TheVariants.{BadSize, ShortMemory, WrongState, OutOfRange, NotAdmitted, UnfitFront, BadNames, BadLine, LongText}
 
@@ -14,6 +14,18 @@ number_of UnfitFront = 6
 number_of BadNames = 7
 number_of BadLine = 8
 number_of LongText = 9
+
+-- the refusal in words
+abbrev pub words_of : Refusal → List ℕ
+words_of BadSize = codes "a side is 0 or above 1024"
+words_of ShortMemory = codes "a memory is too short"
+words_of WrongState = codes "the bench is not in the state for it"
+words_of OutOfRange = codes "it is off the sheet"
+words_of NotAdmitted = codes "the order does not admit the metric"
+words_of UnfitFront = codes "the front is too small or not empty"
+words_of BadNames = codes "a line of names is not as it must be"
+words_of BadLine = codes "a line is not as it must be"
+words_of LongText = codes "the text is too long"
 
 -- the refusal that is due: checks are made in turn, and the first that fails gives its own
 abbrev pub check : Bool → Refusal → Option Refusal → Option Refusal

@@ -12,14 +12,14 @@ pub fn pack(distance: u32, place: u32) -> u64
     ensures value { result ≡ key_of distance place }
     ensures reads { place < 1048576 → reading_of result ≡ Some (distance, place) }
 {
-    distance as u64 * UNIT + place as u64
+    u64::from(distance) * UNIT + u64::from(place)
 }
 
 // The key with its distance raised by a weight; blank where that goes past the greatest number.
 pub fn step(key: u64, weight: u32) -> u64
     ensures { result ≡ stepped key weight }
 {
-    key.saturating_add(weight as u64 * UNIT)
+    key.saturating_add(u64::from(weight) * UNIT)
 }
 
 // The distance and the place of air that a key holds; nothing for the blank key.

@@ -1,5 +1,8 @@
-ghost use Rattle.std.specs.Prelude.{◌≡◌};
-ghost use Rattle.sheet.specs.Refusals.{number_of};
+ghost use Rattle.std.specs.Prelude.{◌≡◌, Some};
+ghost use Rattle.sheet.specs.Refusals.{number_of, words_of};
+
+use std::error::Error;
+use std::fmt;
 
 // Why a call did nothing.
 #[derive(Clone, Copy, PartialEq, Eq, Debug)]
@@ -24,11 +27,31 @@ pub enum Refusal {
     LongText = 9,
 }
 
-impl Refusal {
-    // The number by which a host knows the refusal.
-    pub fn number(self) -> u32
-        ensures { result ≡ number_of self }
-    {
-        self as u32
+// The number by which a host knows the refusal.
+impl From<Refusal> for u32 {
+    ghost from_gives = { λ refusal number. number ≡ number_of refusal };
+
+    fn from(refusal: Refusal) -> u32 {
+        refusal as u32
     }
 }
+
+impl fmt::Display for Refusal {
+    ghost output = { λ refusal. Some (words_of refusal) };
+
+    fn fmt<W: fmt::Write>(&self, f: &mut fmt::Formatter<W>) -> fmt::Result {
+        match self {
+            Refusal::BadSize => write!(f, "a side is 0 or above 1024"),
+            Refusal::ShortMemory => write!(f, "a memory is too short"),
+            Refusal::WrongState => write!(f, "the bench is not in the state for it"),
+            Refusal::OutOfRange => write!(f, "it is off the sheet"),
+            Refusal::NotAdmitted => write!(f, "the order does not admit the metric"),
+            Refusal::UnfitFront => write!(f, "the front is too small or not empty"),
+            Refusal::BadNames => write!(f, "a line of names is not as it must be"),
+            Refusal::BadLine => write!(f, "a line is not as it must be"),
+            Refusal::LongText => write!(f, "the text is too long"),
+        }
+    }
+}
+
+impl Error for Refusal {}

@@ -38,13 +38,13 @@ fn keys(rt: HostRuntime) {
 
 #[test]
 fn numbers(rt: HostRuntime) {
-    assert_eq!(rt; Refusal::BadSize.number(), 1);
-    assert_eq!(rt; Refusal::ShortMemory.number(), 2);
-    assert_eq!(rt; Refusal::OutOfRange.number(), 4);
+    assert_eq!(rt; u32::from(Refusal::BadSize), 1);
+    assert_eq!(rt; u32::from(Refusal::ShortMemory), 2);
+    assert_eq!(rt; u32::from(Refusal::OutOfRange), 4);
 }
 
 #[test]
 fn later_numbers(rt: HostRuntime) {
-    assert_eq!(rt; Refusal::WrongState.number(), 3);
-    assert_eq!(rt; Refusal::LongText.number(), 9);
+    assert_eq!(rt; u32::from(Refusal::WrongState), 3);
+    assert_eq!(rt; u32::from(Refusal::LongText), 9);
 }

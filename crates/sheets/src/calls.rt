@@ -1,4 +1,5 @@
-// What calls do to the memory of a sheet of a given size. Both sheets and the bench are built on these.
+// What calls do to the memory of a sheet of a given size. Both sheets and the bench are built on these. A pixel is named by two
+// numbers, as image libraries do: a struct would put a name before both at every call, and a neighbour differs in one of them.
 ghost use Rattle.std.specs.Prelude.{◌≡◌, ◌*◌, ◌<◌, ◌||◌, length, nat_le, nat_lt};
 ghost use Rattle.sheet.specs.Pixels.{place_of};
 ghost use Rattle.sheet.specs.Refusals.{Answers, check, passed};
@@ -72,9 +73,7 @@ pub fn clear(size: Size, keys: &mut [u64]) -> Result<(), Refusal>
         result }
 {
     size.check_memory(keys.len())?;
-    for place in 0..size.pixels() {
-        keys[place] = key::BLANK;
-    }
+    keys[..size.pixels()].fill(key::BLANK);
     Ok(())
 }
 
@@ -96,14 +95,16 @@ pub fn open(width: usize, height: usize, picture: &[u8], keys: &mut [u64]) -> Re
 fn higher(best: Option<(u64, u64)>, reading: Option<(u64, u64)>, place: u64) -> Option<(u64, u64)>
     ensures { result ≡ higher best reading place }
 {
-    match (best, reading) {
-        (None, Some((distance, _))) => Some((distance, place)),
-        (Some((most, _)), Some((distance, _))) if most < distance => Some((distance, place)),
-        (_, _) => best,
+    match reading {
+        Some((distance, _)) if best.is_none_or(|(most, _)| most < distance) => {
+            Some((distance, place))
+        }
+        _ => best,
     }
 }
 
 // The greatest distance in the keys with the first place that has it; nothing where all are blank.
+// A loop: no proof was found for the same step in a `fold` over `enumerate`.
 fn highest(keys: &[u64]) -> Option<(u64, u64)>
     ensures { result ≡ peak_of (length keys.now) keys.now }
 {
@@ -123,5 +124,5 @@ pub fn peak(size: Size, keys: &[u64]) -> Result<Option<(u64, u64)>, Refusal>
         result }
 {
     size.check_memory(keys.len())?;
-    Ok(highest(&keys[0..size.pixels()]))
+    Ok(highest(&keys[..size.pixels()]))
 }

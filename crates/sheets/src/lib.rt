@@ -8,4 +8,4 @@ mod settled_sheet;
 #[cfg(test)]
 mod tests;
 
-pub use held::{OpenSheet, Reopening, SettledSheet, Settling};
+pub use held::{OpenSheet, SettledSheet};

@@ -7,7 +7,7 @@ ghost use Rattle.sheets.specs.Calls.{open_refusal, pixel_refusal, marked, blanke
 ghost use Rattle.sheets.specs.Sheets.{SettlesSheet};
 
 use crate::calls;
-use crate::held::{OpenSheet, SettledSheet, Settling};
+use crate::held::{OpenSheet, SettledSheet};
 use front::Front;
 use metric::Metric;
 use sheet::order::Order;
@@ -53,7 +53,8 @@ impl OpenSheet {
         calls::mark(self.size, row, column, calls::CARBON, picture)
     }
 
-    // Settles the picture: the first n keys get the settled image, and so does the spare. Uses the sheet up.
+    // Settles the picture: the first n keys get the settled image, and so does the spare. Uses the sheet up: gives a settled one with
+    // the count, or the same sheet again with the refusal.
     pub fn settle<M: Metric, F: Front>(
         self,
         metric: &M,
@@ -62,7 +63,7 @@ impl OpenSheet {
         keys: &mut [u64],
         spare: &mut [u64],
         front: &mut F,
-    ) -> Settling
+    ) -> Result<(SettledSheet, u64), (OpenSheet, Refusal)>
         ensures settles { SettlesSheet self
             (settle_refusal order (M.model metric.now) self.size picture.now keys.old spare.old (F.waits front.old))
             ((keys.new ≡ keys.old) × (spare.new ≡ spare.old) × (front.new ≡ front.old))
@@ -75,9 +76,9 @@ impl OpenSheet {
         match settling::settle(self.size, metric, order, picture, keys, spare, front) {
             Ok(count) => {
                 let OpenSheet { size } = self;
-                Settling::Settled(SettledSheet { size }, count)
+                Ok((SettledSheet { size }, count))
             }
-            Err(refusal) => Settling::Unsettled(self, refusal),
+            Err(refusal) => Err((self, refusal)),
         }
     }
 

@@ -4,7 +4,7 @@ ghost use Rattle.sheets.specs.Calls.{pixel_refusal, memory_refusal, blanked, rea
 ghost use Rattle.sheets.specs.Sheets.{ReopensSheet};
 
 use crate::calls;
-use crate::held::{OpenSheet, Reopening, SettledSheet};
+use crate::held::{OpenSheet, SettledSheet};
 use sheet::refusal::Refusal;
 
 impl SettledSheet {
@@ -35,8 +35,8 @@ impl SettledSheet {
         calls::peak(self.size, keys)
     }
 
-    // Makes the first n keys blank. Uses the sheet up.
-    pub fn reopen(self, keys: &mut [u64]) -> Reopening
+    // Makes the first n keys blank. Uses the sheet up: gives an open one, or the same sheet again with the refusal.
+    pub fn reopen(self, keys: &mut [u64]) -> Result<OpenSheet, (SettledSheet, Refusal)>
         ensures { ReopensSheet self
             (memory_refusal self.size keys.old)
             (keys.new ≡ keys.old)
@@ -46,9 +46,9 @@ impl SettledSheet {
         match calls::clear(self.size, keys) {
             Ok(()) => {
                 let SettledSheet { size } = self;
-                Reopening::Reopened(OpenSheet { size })
+                Ok(OpenSheet { size })
             }
-            Err(refusal) => Reopening::Unopened(self, refusal),
+            Err(refusal) => Err((self, refusal)),
         }
     }
 

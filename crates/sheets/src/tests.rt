@@ -1,4 +1,4 @@
-use crate::{OpenSheet, Reopening, SettledSheet, Settling};
+use crate::{OpenSheet, SettledSheet};
 use front::mark_front::MarkFront;
 use metric::chessboard::Chessboard;
 use metric::squared_euclidean::SquaredEuclidean;
@@ -14,11 +14,11 @@ fn read_row(rt: &impl Abort, sheet: SettledSheet, keys: &mut [u64]) {
     let off = sheet.read(1, 0, keys);
     let peak = sheet.peak(keys);
     let again = match sheet.reopen(keys) {
-        Reopening::Reopened(open) => {
+        Ok(open) => {
             open.close();
             Ok(())
         }
-        Reopening::Unopened(settled, refusal) => {
+        Err((settled, refusal)) => {
             settled.close();
             Err(refusal)
         }
@@ -48,11 +48,11 @@ fn row_of_three(rt: HostRuntime) -> Result<(), Fail> {
         &mut spare,
         &mut front,
     ) {
-        Settling::Settled(settled, count) => {
+        Ok((settled, count)) => {
             read_row(&rt, settled, &mut keys);
             assert_eq!(rt; count, 3);
         }
-        Settling::Unsettled(open, refusal) => {
+        Err((open, refusal)) => {
             open.close();
             assert_eq!(rt; Ok(()), Err(refusal));
         }
@@ -81,11 +81,11 @@ fn given_back(rt: HostRuntime) -> Result<(), Fail> {
         &mut spare,
         &mut front,
     ) {
-        Settling::Settled(settled, _) => {
+        Ok((settled, _)) => {
             settled.close();
             Ok(())
         }
-        Settling::Unsettled(open, refusal) => {
+        Err((open, refusal)) => {
             open.close();
             Err(refusal)
         }

@@ -1,34 +1,39 @@
 -- How bytes part at their first byte c.
-use Rattle.std.proofs.Common.{◌≡◌, ℕ, zero, suc, ◌+◌, ◌<◌, ◌≤◌, Bool, true, false, cond, eqb, List, [], ◌∷◌, ◌++◌, length, get_or, take, drop, None, sym, refl, ap, ◌∙◌, add-one, arith, eq-eqb, eqb-true}
-use Rattle.std.proofs.lemmas.List.{append_assoc, drop_at, length_push, length-append}
+use Rattle.std.proofs.Common.{◌≡◌, ℕ, ◌+◌, ◌<◌, ◌≤◌, Bool, true, false, cond, eqb, List, [], ◌∷◌, ◌++◌, length, take, drop, position, Some, None, ◌==◌, not, one-add, subst, sym, refl, ap, ◌∙◌, add-one, arith, eqb-true}
+use Rattle.std.specs.List.{position_or_len}
+use Rattle.std.proofs.lemmas.List.{length-append}
 use Rattle.std.proofs.lemmas.Bool.Decides.{nat_tests}
 use Rattle.words.specs.Parts.{onto, parted, just_three, three_words}
 
--- a test that is decided
-pub if_yes : {X : Type 0} (b : Bool) (x y : X) → b ≡ true → cond b x y ≡ x
-if_yes b x y e = rw e
+-- the first place of c, or the length
+abbrev place : ℕ → List ℕ → ℕ
+place c s = position_or_len (λ b. b == c) s
 
-pub if_no : {X : Type 0} (b : Bool) (x y : X) → b ≡ false → cond b x y ≡ y
-if_no b x y e = rw e
+parts_by : (found : Bool) (c b : ℕ) (s : List ℕ) → (place c s < length s → parted c s ≡ take (place c s) s ∷ parted c (drop (place c s + 1) s)) → let n = cond (not found) (1 + place c s) 0 in n < length (b ∷ s) → cond found ([] ∷ parted c s) (onto b (parted c s)) ≡ take n (b ∷ s) ∷ parted c (drop (n + 1) (b ∷ s))
+parts_by true c b s more h = refl
+parts_by false c b s more h = rw (one-add, add-one) (ap (onto b) (rw add-one at (more (omega arith))))
 
-pub differs : (a b : ℕ) → (a ≡ b → ⊥) → eqb a b ≡ false
-differs a b h = grind (arith, nat_tests)
+parts_first : (c : ℕ) (s : List ℕ) → place c s < length s → parted c s ≡ take (place c s) s ∷ parted c (drop (place c s + 1) s)
+parts_first c [] h = absurd (omega arith)
+parts_first c (b ∷ s) h = parts_by (b == c) c b s (parts_first c s) h
 
--- c first stands at i
-first_at : (c : ℕ) (s : List ℕ) (i : ℕ) → i < length s → ((k : ℕ) → k < i → get_or s k 0 ≡ c → ⊥) → get_or s i 0 ≡ c → parted c s ≡ take i s ∷ parted c (drop (suc i) s)
-first_at c [] i h free here = absurd (omega arith)
-first_at c (b ∷ s) zero h free here = if_yes _ _ _ (eq-eqb b c here)
-first_at c (b ∷ s) (suc i) h free here =
-    if_no _ _ _ (differs b c (free 0 (omega arith))) ∙ ap (onto b) (first_at c s i (omega arith) (λ k lt. free (suc k) (omega arith)) here)
+whole_by : (found : Bool) (c b : ℕ) (s : List ℕ) → (length s ≤ place c s → parted c s ≡ s ∷ []) → length (b ∷ s) ≤ cond (not found) (1 + place c s) 0 → cond found ([] ∷ parted c s) (onto b (parted c s)) ≡ (b ∷ s) ∷ []
+whole_by true c b s more h = absurd (omega arith)
+whole_by false c b s more h = ap (onto b) (more (omega arith))
 
-pub parts_at : (c : ℕ) (s : List ℕ) (i : ℕ) → i < length s → ((k : ℕ) → k < i → get_or s k 0 ≡ c → ⊥) → get_or s i 0 ≡ c → parted c s ≡ take i s ∷ parted c (drop (i + 1) s)
-parts_at c s i h free here = rw add-one (first_at c s i h free here)
+parts_whole : (c : ℕ) (s : List ℕ) → length s ≤ place c s → parted c s ≡ s ∷ []
+parts_whole c [] h = refl
+parts_whole c (b ∷ s) h = whole_by (b == c) c b s (parts_whole c s) h
 
--- c stands nowhere
-pub parts_nowhere : (c : ℕ) (s : List ℕ) → ((k : ℕ) → k < length s → get_or s k 0 ≡ c → ⊥) → parted c s ≡ s ∷ []
-parts_nowhere c [] free = refl
-parts_nowhere c (b ∷ s) free =
-    if_no _ _ _ (differs b c (free 0 (omega arith))) ∙ ap (onto b) (parts_nowhere c s (λ k lt. free (suc k) (omega arith)))
+-- what `position` gives
+pub parts_at : (c : ℕ) (s : List ℕ) (i : ℕ) → position (λ b. b == c) s ≡ Some i → parted c s ≡ take i s ∷ parted c (drop (i + 1) s)
+parts_at c s i e =
+    let first : (place c s < length s) × (place c s ≡ i) = grind (arith, nat_tests) in
+    subst (λ i. parted c s ≡ take i s ∷ parted c (drop (i + 1) s)) first.1 (parts_first c s first.0)
+
+pub parts_nowhere : (c : ℕ) (s : List ℕ) → position (λ b. b == c) s ≡ None → parted c s ≡ s ∷ []
+parts_nowhere c s e =
+    let past : length s ≤ place c s = grind (arith, nat_tests) in parts_whole c s past
 
 -- there is always a part
 some_onto : (b : ℕ) (parts : List (List ℕ)) → (p : List ℕ) × (ps : List (List ℕ)) × (onto b parts ≡ p ∷ ps)
@@ -74,13 +79,9 @@ rejoined c [] = refl
 rejoined c (b ∷ s) = rejoined_at (eqb b c) c b s refl (rejoined c s)
 
 -- so the first part, c and the rest make up the whole
-pub whole_from_parts : (c : ℕ) (s a rest : List ℕ) → parted c s ≡ a ∷ parted c rest → s ≡ a ++ c ∷ rest
+whole_from_parts : (c : ℕ) (s a rest : List ℕ) → parted c s ≡ a ∷ parted c rest → s ≡ a ++ c ∷ rest
 whole_from_parts c s a rest e =
     sym (rejoined c s) ∙ ap (joined_by c) e ∙ joined_first c a rest ∙ ap (λ l. a ++ c ∷ l) (rejoined c rest)
 
-pub rest_from_parts : (c : ℕ) (s a rest : List ℕ) → parted c s ≡ a ∷ parted c rest → drop (length a + 1) s ≡ rest
-rest_from_parts c s a rest e =
-    ap (drop (length a + 1)) (whole_from_parts c s a rest e ∙ sym (append_assoc a (c ∷ []) rest)) ∙ drop_at (a ++ c ∷ []) rest (length a + 1) (length_push a c)
-
-pub room_from_parts : (c : ℕ) (s a rest : List ℕ) → parted c s ≡ a ∷ parted c rest → length a + 1 ≤ length s
-room_from_parts c s a rest e = omega (arith, simp length-append at (ap length (whole_from_parts c s a rest e)))
+pub rest_shorter : (c : ℕ) (s a rest : List ℕ) → parted c s ≡ a ∷ parted c rest → length rest < length s
+rest_shorter c s a rest e = omega (arith, simp length-append at (ap length (whole_from_parts c s a rest e)))

@@ -9,13 +9,13 @@ use Rattle.words.specs.Parts.{three_words}
 -- the part of the text that a word is
 abbrev pub bytes_of : Word → List ℕ
 bytes_of (Number digits) = digits.now
-bytes_of (Letter byte) = byte.now ∷ []
+bytes_of (Letter byte) = byte ∷ []
 bytes_of (Name bytes) = bytes.now
 
 -- a number begins with a digit, a letter is one other byte, and a name is all else
 abbrev pub Sorted : Word → Type 0
 Sorted (Number digits) = is_ascii_digit (slice_index digits.now 0) ≡ true
-Sorted (Letter byte) = is_ascii_digit byte.now ≡ false
+Sorted (Letter byte) = is_ascii_digit byte ≡ false
 Sorted (Name bytes) = (is_ascii_digit (slice_index bytes.now 0) ≡ false) × (length bytes.now ≢ 1)
 
 -- the three words of some bytes

@@ -16,7 +16,8 @@ pub enum CallName {
     Reopen,
 }
 
-// The calls with what each is asked for.
+// The calls with what each is asked for. The calls of a bench are an enum of their own: one generic enum below both crates would
+// leave unnamed what a settling has, here an order and there a metric with its order.
 #[derive(Clone, Copy, PartialEq, Eq, Debug)]
 pub enum Call {
     Strike { row: usize, column: usize },
@@ -27,7 +28,7 @@ pub enum Call {
     Reopen,
 }
 
-// The call that a letter stands for.
+// The call that a letter stands for. No `TryFrom`: its error would say no more than `None`, and each caller would drop it.
 pub fn call_of(letter: char) -> Option<CallName>
     ensures { result ≡ call_of letter }
 {
@@ -42,7 +43,7 @@ pub fn call_of(letter: char) -> Option<CallName>
     }
 }
 
-// The order of work that a letter stands for.
+// The order of work that a letter stands for; an `Option` for the same reason.
 pub fn order_of(letter: char) -> Option<Order>
     ensures { result ≡ order_of letter }
 {

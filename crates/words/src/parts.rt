@@ -1,12 +1,12 @@
-// Bytes compared and taken apart.
-ghost use Rattle.std.specs.Prelude.{◌≡◌, [], ◌∷◌, MatchOption};
-ghost use Rattle.std.specs.Str.{bytes_eq};
+// Bytes taken apart.
+ghost use Rattle.std.specs.Prelude.{◌≡◌, ◌==◌, [], ◌∷◌, MatchOption, position};
 ghost use Rattle.words.specs.Parts.{parted};
 
-pub fn same_bytes(a: &[u8], b: &[u8]) -> bool
-    ensures { result ≡ bytes_eq a.now b.now }
+// Where the byte `at` first stands; by itself, since in `cut` the check loses what `position` found.
+fn position_of(bytes: &[u8], at: u8) -> Option<usize>
+    ensures { result ≡ position (λ b. b == at) bytes.now }
 {
-    a == b
+    bytes.iter().position(|b| *b == at)
 }
 
 // The parts before and after the first byte `at`; nothing where there is none.
@@ -15,10 +15,6 @@ pub fn cut(bytes: &[u8], at: u8) -> Option<(&[u8], &[u8])>
         (parted at bytes.now ≡ bytes.now ∷ [])
         (λ p. parted at bytes.now ≡ p.0.now ∷ parted at p.1.now) }
 {
-    for (i, b) in bytes.iter().enumerate() {
-        if *b == at {
-            return Some((&bytes[0..i], &bytes[i + 1..]));
-        }
-    }
-    None
+    let i = position_of(bytes, at)?;
+    Some((&bytes[..i], &bytes[i + 1..]))
 }

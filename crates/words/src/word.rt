@@ -1,10 +1,12 @@
-ghost use Rattle.std.specs.Prelude.{◌≡◌, None, MatchOption};
+ghost use Rattle.std.specs.Prelude.{◌≡◌, true, None, MatchOption, slice_index};
+ghost use Rattle.std.specs.Char.{is_ascii_digit};
 ghost use Rattle.words.specs.Parts.{three_words};
 ghost use Rattle.words.specs.Words.{number_of, letter_of, metric_of};
 ghost use Rattle.words.specs.Cases.{bytes_of, Sorted, ThreeOf};
 
 use crate::metric_name::{MetricName, metric_of};
 use crate::parts::cut;
+use std::str;
 
 // The most digits of a number.
 const DIGITS: usize = 4;
@@ -15,7 +17,7 @@ pub(crate) enum Word<'a> {
     // It begins with a digit.
     Number(&'a [u8]),
     // It is one other byte.
-    Letter(&'a u8),
+    Letter(u8),
     // It is neither.
     Name(&'a [u8]),
 }
@@ -27,22 +29,15 @@ pub(crate) struct Words<'a> {
     pub(crate) third: Word<'a>,
 }
 
-// The value of one to four digits.
+// The number of one to four digits. `parse` takes a sign too, but the first byte is a digit.
 fn number_of(word: &[u8]) -> Option<usize>
+    requires { is_ascii_digit (slice_index word.now 0) ≡ true }
     ensures { result ≡ number_of word.now }
 {
-    if word.len() == 0 || word.len() > DIGITS {
+    if word.len() > DIGITS {
         return None;
     }
-    let mut n = 0;
-    for i in 0..word.len() {
-        let b = word[i];
-        if b < b'0' || b > b'9' {
-            return None;
-        }
-        n = n * 10 + usize::from(b - b'0');
-    }
-    Some(n)
+    str::from_utf8(word).ok()?.parse().ok()
 }
 
 impl<'a> Word<'a> {
@@ -53,7 +48,7 @@ impl<'a> Word<'a> {
         match part {
             [] => Word::Name(part),
             [b'0'..=b'9', ..] => Word::Number(part),
-            [letter] => Word::Letter(letter),
+            [letter] => Word::Letter(*letter),
             _ => Word::Name(part),
         }
     }
@@ -73,7 +68,7 @@ impl<'a> Word<'a> {
         ensures { result ≡ letter_of (bytes_of self.entry) }
     {
         match self {
-            Word::Letter(letter) => Some(char::from(*letter)),
+            Word::Letter(letter) => Some(char::from(letter)),
             _ => None,
         }
     }

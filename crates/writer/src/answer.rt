@@ -8,18 +8,10 @@ pub struct Figures {
     pub column: usize,
 }
 
-// How a call ended.
-#[derive(Clone, Copy, PartialEq, Eq, Debug)]
-pub enum Outcome {
-    Given(Figures),
-    // A reading or a peak on a sheet without air.
-    Absent,
-    Refused(Refusal),
-}
-
-// The answer to the call of a line, or to a text that is refused at that line.
+// The answer to the call of a line, or to a text that is refused at that line. There are no figures for a reading or a peak on a sheet
+// without air.
 #[derive(Clone, Copy, PartialEq, Eq, Debug)]
 pub struct Answer {
     pub line: usize,
-    pub outcome: Outcome,
+    pub outcome: Result<Option<Figures>, Refusal>,
 }

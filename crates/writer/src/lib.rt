@@ -4,7 +4,7 @@
 ghost use Rattle.std.specs.Prelude.{◌≡◌, IfOk, Some, string_bytes};
 ghost use Rattle.writer.specs.Answers.{answer_words, text_of};
 
-use answer::{Answer, Outcome};
+use answer::{Answer, Figures};
 use std::alloc::{AllocError, Global};
 use std::fmt;
 
@@ -18,29 +18,42 @@ impl fmt::Display for Answer {
     fn fmt<W: fmt::Write>(&self, f: &mut fmt::Formatter<W>) -> fmt::Result {
         let line = self.line;
         match self.outcome {
-            Outcome::Given(figures) => {
-                let distance = figures.distance;
-                let row = figures.row;
-                let column = figures.column;
+            Ok(Some(figures)) => {
+                let Figures {
+                    distance,
+                    row,
+                    column,
+                } = figures;
                 write!(f, "{line},0,{distance},{row},{column}")
             }
-            Outcome::Absent => write!(f, "{line},0,-,-,-"),
-            Outcome::Refused(refusal) => {
-                let number = refusal.number();
+            Ok(None) => write!(f, "{line},0,-,-,-"),
+            Err(refusal) => {
+                let number = u32::from(refusal);
                 write!(f, "{line},{number},0,0,0")
             }
         }
     }
 }
 
-// The text of some answers: a line of names, and a line for each.
+// Answers, printed as the text that a host is given: a line of names, and a line for each.
+#[derive(Clone, Copy)]
+pub struct Answers<'a>(pub &'a [Answer]);
+
+impl fmt::Display for Answers<'_> {
+    ghost output = { λ answers. Some (text_of answers.0.now) };
+
+    fn fmt<W: fmt::Write>(&self, f: &mut fmt::Formatter<W>) -> fmt::Result {
+        writeln!(f, "line,answer,distance,row,column")?;
+        for answer in self.0 {
+            writeln!(f, "{answer}")?;
+        }
+        Ok(())
+    }
+}
+
+// The text of some answers.
 pub fn answer_text(heap: Global, answers: &[Answer]) -> Result<String, AllocError>
     ensures { IfOk result (λ text. string_bytes text ≡ text_of answers.now) }
 {
-    let mut text = String::from_str(heap, "line,answer,distance,row,column\n")?;
-    for answer in answers {
-        let line = format!(in heap; "{answer}\n")?;
-        text.push_str(line.as_str())?;
-    }
-    Ok(text)
+    Answers(answers).to_string(heap)
 }

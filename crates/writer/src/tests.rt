@@ -1,4 +1,4 @@
-use crate::answer::{Answer, Figures, Outcome};
+use crate::answer::{Answer, Figures};
 use crate::answer_text;
 use sheet::refusal::Refusal;
 use std::test::Fail;
@@ -11,14 +11,14 @@ fn given(line: usize, distance: u64, row: usize, column: usize) -> Answer {
     };
     Answer {
         line,
-        outcome: Outcome::Given(figures),
+        outcome: Ok(Some(figures)),
     }
 }
 
 fn refused(line: usize, refusal: Refusal) -> Answer {
     Answer {
         line,
-        outcome: Outcome::Refused(refusal),
+        outcome: Err(refusal),
     }
 }
 
@@ -30,7 +30,7 @@ fn answers(rt: HostRuntime) -> Result<(), Fail> {
         refused(11, Refusal::NotAdmitted),
         Answer {
             line: 12,
-            outcome: Outcome::Absent,
+            outcome: Ok(None),
         },
         given(13, u64::MAX, 1023, 0),
     ];

@@ -1,16 +1,16 @@
-ghost use Rattle.std.specs.Prelude.{◌≡◌, ◌<◌, ◌≤◌, length, drop, IfSome, MatchOption, ◌≢◌, nat_le, slice_index};
+ghost use Rattle.std.specs.Prelude.{◌≡◌, length, drop, IfSome, MatchOption, nat_le, position};
 ghost use Rattle.sheet.specs.Refusals.{Answers, check, passed};
 ghost use Rattle.sheet.specs.declared.refusal.Refusal.TheVariants.{OutOfRange};
-ghost use Rattle.front.specs.Waiting.{size_of, idle, Puts, Takes, NoneWaits, NoneLower};
-ghost use Rattle.front.specs.Memory.{ClearBelow, marked_bounded};
-ghost use Rattle.front.specs.Fronts.{mark_waits, mark_rest};
+ghost use Rattle.front.specs.Waiting.{size_of, idle, Puts, Takes, NoneWaits, IsLowest, NoneLower};
+ghost use Rattle.front.specs.Memory.{is_set, marked_bounded};
+ghost use Rattle.front.specs.Fronts.{mark_waits, mark_rest, MarkStays};
 
 use crate::mark_front::MarkFront;
-use crate::{Count, Front, fitting, marks};
+use crate::{Count, Front, fitting};
 use sheet::refusal::Refusal;
 
-// The clauses `lender` and `rest` say that a front stays in the memory that it was made over, and alters nothing past
-// its size.
+// The clauses `lender`, `rest` and `stays` say that a front stays in the memory that it was made over, and alters nothing
+// past its size.
 impl<'a> MarkFront<'a> {
     // An empty front in lent memory; of size 0 where the size or the memory is refused.
     pub fn over(size: usize, marks: &'a mut [u8]) -> MarkFront<'a>
@@ -21,7 +21,7 @@ impl<'a> MarkFront<'a> {
         ensures rest { mark_rest result ≡ drop result.size marks.old }
     {
         let fit = fitting(size, marks.len());
-        marks::clear(marks, fit);
+        marks[..fit].fill(0);
         MarkFront {
             tally: 0,
             low: 0,
@@ -30,14 +30,20 @@ impl<'a> MarkFront<'a> {
         }
     }
 
-    // The lowest marked place, or the size.
-    fn lowest(&self) -> usize
-        ensures within { result ≤ self.now.size }
-        ensures below { ClearBelow self.now.marks.now result }
-        ensures found { result < self.now.size → slice_index self.now.marks.now result ≢ 0 }
+    // The lowest place that waits.
+    fn lowest(&self) -> Option<usize>
+        ensures { MatchOption result (NoneWaits (mark_waits self.now)) (IsLowest (mark_waits self.now)) }
     {
-        marks::lowest(self.marks, self.low, self.size)
+        let ahead = first_set(&self.marks[self.low..self.size])?;
+        Some(self.low + ahead)
     }
+}
+
+// The first mark that is set.
+fn first_set(marks: &[u8]) -> Option<usize>
+    ensures { result ≡ position is_set marks.now }
+{
+    marks.iter().position(|mark| *mark != 0)
 }
 
 impl<'a> Front for MarkFront<'a> {
@@ -50,13 +56,9 @@ impl<'a> Front for MarkFront<'a> {
     fn start(&mut self)
         ensures waits { mark_waits self.new ≡ idle (length (mark_waits self.old)) }
         ensures tally { self.new.tally ≡ 0 }
-        ensures size { self.new.size ≡ self.old.size }
-        ensures lender { self.new.marks.ghost_name ≡ self.old.marks.ghost_name }
-        ensures rest { mark_rest self.new ≡ mark_rest self.old }
+        ensures stays { MarkStays self.old self.new }
     {
-        for i in 0..self.size {
-            self.marks[i] = 0;
-        }
+        self.marks[..self.size].fill(0);
         self.tally = 0;
     }
 
@@ -66,16 +68,13 @@ impl<'a> Front for MarkFront<'a> {
             (self.new ≡ self.old)
             (λ _. Puts (mark_waits self.old) self.old.tally place (mark_waits self.new) self.new.tally)
             result }
-        ensures size { self.new.size ≡ self.old.size }
-        ensures lender { self.new.marks.ghost_name ≡ self.old.marks.ghost_name }
-        ensures rest { mark_rest self.new ≡ mark_rest self.old }
+        ensures stays { MarkStays self.old self.new }
     {
         if place >= self.size {
             return Err(Refusal::OutOfRange);
         }
-        let low = if place < self.low { place } else { self.low };
+        self.low = self.low.min(place);
         self.marks[place] = 1;
-        self.low = low;
         Ok(())
     }
 
@@ -85,25 +84,22 @@ impl<'a> Front for MarkFront<'a> {
             (NoneWaits (mark_waits self.old) × (self.new ≡ self.old))
             (λ p. Takes (mark_waits self.old) self.old.tally p (mark_waits self.new) self.new.tally) }
         ensures lowest { IfSome result (NoneLower (mark_waits self.old)) }
-        ensures size { self.new.size ≡ self.old.size }
-        ensures lender { self.new.marks.ghost_name ≡ self.old.marks.ghost_name }
-        ensures rest { mark_rest self.new ≡ mark_rest self.old }
+        ensures stays { MarkStays self.old self.new }
     {
-        let at = self.lowest();
-        if at >= self.size {
-            return None;
-        }
-        let tally = self.tally.saturating_add(1);
-        self.marks[at] = 0;
-        self.low = at + 1;
-        self.tally = tally;
-        Some(at)
+        let place = self.lowest()?;
+        self.marks[place] = 0;
+        self.low = place + 1;
+        self.tally = self.tally.saturating_add(1);
+        Some(place)
     }
 
     fn count(&self) -> Count {
         Count {
             size: self.size,
-            waiting: marks::how_many(&self.marks[0..self.size]),
+            waiting: self.marks[..self.size]
+                .iter()
+                .filter(|mark| **mark != 0)
+                .count(),
             tally: self.tally,
         }
     }

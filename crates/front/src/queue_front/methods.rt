@@ -3,14 +3,14 @@ ghost use Rattle.sheet.specs.Refusals.{Answers, check, passed};
 ghost use Rattle.sheet.specs.declared.refusal.Refusal.TheVariants.{OutOfRange};
 ghost use Rattle.front.specs.Waiting.{size_of, idle, Puts, Takes, NoneWaits};
 ghost use Rattle.front.specs.Memory.{turn, marked_bounded};
-ghost use Rattle.front.specs.Fronts.{queue_waits, queued, enqueued, ring_rest, flags_rest};
+ghost use Rattle.front.specs.Fronts.{queue_waits, queued, enqueued, flags_rest, QueueStays};
 
 use crate::queue_front::QueueFront;
-use crate::{Count, Front, fitting, marks};
+use crate::{Count, Front, fitting};
 use sheet::refusal::Refusal;
 
-// The clauses on lenders and rests say that a queue stays in the memory that it was made over, and alters nothing past
-// its size.
+// The clauses on lenders and rests, and `stays`, say that a queue stays in the memory that it was made over, and alters
+// nothing past its size.
 impl<'a> QueueFront<'a> {
     // An empty front in lent memory, of which the shorter counts; of size 0 where the size or the memory is refused.
     pub fn over(size: usize, ring: &'a mut [u32], flags: &'a mut [u8]) -> QueueFront<'a>
@@ -24,7 +24,7 @@ impl<'a> QueueFront<'a> {
         ensures flags_rest { flags_rest result ≡ drop result.size flags.old }
     {
         let fit = fitting(size, ring.len().min(flags.len()));
-        marks::clear(flags, fit);
+        flags[..fit].fill(0);
         QueueFront {
             tally: 0,
             head: 0,
@@ -56,13 +56,9 @@ impl<'a> Front for QueueFront<'a> {
         ensures waits { queue_waits self.new ≡ idle (length (queue_waits self.old)) }
         ensures tally { self.new.tally ≡ 0 }
         ensures order { queued self.new ≡ [] }
-        ensures size { self.new.size ≡ self.old.size }
-        ensures ring_lender { self.new.ring.ghost_name ≡ self.old.ring.ghost_name }
-        ensures ring_rest { ring_rest self.new ≡ ring_rest self.old }
-        ensures flags_lender { self.new.flags.ghost_name ≡ self.old.flags.ghost_name }
-        ensures flags_rest { flags_rest self.new ≡ flags_rest self.old }
+        ensures stays { QueueStays self.old self.new }
     {
-        while let Some(_p) = self.take() {}
+        while self.take().is_some() {}
         self.tally = 0;
     }
 
@@ -74,11 +70,7 @@ impl<'a> Front for QueueFront<'a> {
             (λ _. Puts (queue_waits self.old) self.old.tally place (queue_waits self.new) self.new.tally)
             result }
         ensures order { queued self.new ≡ enqueued (queue_waits self.old) place (queued self.old) }
-        ensures size { self.new.size ≡ self.old.size }
-        ensures ring_lender { self.new.ring.ghost_name ≡ self.old.ring.ghost_name }
-        ensures ring_rest { ring_rest self.new ≡ ring_rest self.old }
-        ensures flags_lender { self.new.flags.ghost_name ≡ self.old.flags.ghost_name }
-        ensures flags_rest { flags_rest self.new ≡ flags_rest self.old }
+        ensures stays { QueueStays self.old self.new }
     {
         if place >= self.size {
             return Err(Refusal::OutOfRange);
@@ -99,22 +91,17 @@ impl<'a> Front for QueueFront<'a> {
             (NoneWaits (queue_waits self.old) × (self.new ≡ self.old))
             (λ p. Takes (queue_waits self.old) self.old.tally p (queue_waits self.new) self.new.tally) }
         ensures order { MatchOption result (queued self.old ≡ []) (λ p. queued self.old ≡ p ∷ queued self.new) }
-        ensures size { self.new.size ≡ self.old.size }
-        ensures ring_lender { self.new.ring.ghost_name ≡ self.old.ring.ghost_name }
-        ensures ring_rest { ring_rest self.new ≡ ring_rest self.old }
-        ensures flags_lender { self.new.flags.ghost_name ≡ self.old.flags.ghost_name }
-        ensures flags_rest { flags_rest self.new ≡ flags_rest self.old }
+        ensures stays { QueueStays self.old self.new }
     {
         if self.waiting == 0 {
             return None;
         }
         let place = self.ring[self.head] as usize;
         let next = turned(self.size, self.head + 1);
-        let tally = self.tally.saturating_add(1);
         self.flags[place] = 0;
         self.head = next;
         self.waiting -= 1;
-        self.tally = tally;
+        self.tally = self.tally.saturating_add(1);
         Some(place)
     }
 

@@ -1,60 +1,86 @@
-ghost use Rattle.std.specs.Prelude.{◌≡◌, ◌+◌, Ok};
-ghost use Rattle.reader.specs.Lists.{lines_of, call_fault, unless};
-ghost use Rattle.reader.specs.Reading.{lines_left, Steps, PastNames, PastValues};
+ghost use Rattle.std.specs.Prelude.{◌≡◌, ◌+◌, length, Ok};
+ghost use Rattle.std.specs.Iterator.{at_most};
+ghost use Rattle.reader.specs.Lists.{lines_of, faulty, call_fault, unless};
+ghost use Rattle.reader.specs.Reading.{lines_left, Steps, NextLine, PastNames, PastValues, entry_on};
 
-use crate::lines::{Next, Reader};
-use crate::list::Fault;
+use crate::lines::{Line, Lines};
+use crate::list::{Entry, Fault};
 use words::call::call_in;
-use words::parts::{cut, same_bytes};
+use words::parts::cut;
 use words::values::{Values, values_in};
 
-impl<'a> Reader<'a> {
-    pub(crate) fn new(text: &'a [u8]) -> Reader<'a>
-        ensures lines { lines_left result ≡ lines_of text.now }
-        ensures line { result.line ≡ 1 }
+impl<'a> Line<'a> {
+    fn fault(self) -> Fault
+        ensures { result ≡ faulty self.entry.number }
     {
-        Reader {
-            text,
-            at: 0,
-            line: 1,
+        Fault::of_line(self.number)
+    }
+
+    // The call of the line.
+    pub(crate) fn entry(self) -> Result<Entry, Fault>
+        ensures { result ≡ entry_on self.entry.number self.entry.bytes.now }
+    {
+        let call = call_in(self.bytes).ok_or(self.fault())?;
+        Ok(Entry {
+            line: self.number,
+            call,
+        })
+    }
+}
+
+// A last line without its end is the fault of that line.
+impl<'a> Iterator for Lines<'a> {
+    type Item = Result<Line<'a>, Fault>;
+
+    ghost next_gives = { Steps };
+
+    ghost remaining = { λ lines. at_most (length lines.rest.now) };
+
+    fn next(&mut self) -> Option<Result<Line<'a>, Fault>> {
+        let number = self.number;
+        match cut(self.rest, b'\n') {
+            Some((bytes, rest)) => {
+                self.rest = rest;
+                self.number += 1;
+                Some(Ok(Line { number, bytes }))
+            }
+            None if self.rest.is_empty() => None,
+            None => {
+                self.rest = &[];
+                Some(Err(Fault::of_line(number)))
+            }
+        }
+    }
+}
+
+impl<'a> Lines<'a> {
+    pub(crate) fn of(text: &'a [u8]) -> Lines<'a>
+        ensures lines { lines_left result ≡ lines_of text.now }
+        ensures number { result.number ≡ 1 }
+    {
+        Lines {
+            rest: text,
+            number: 1,
         }
     }
 
-    // Takes the next line.
-    pub(crate) fn next(&mut self) -> Next<'a>
-        ensures { Steps result self.old self.new }
+    // Takes a line that has to be there.
+    fn line(&mut self) -> Result<Line<'a>, Fault>
+        ensures { NextLine self.old result self.new }
     {
-        let text = self.text;
-        match cut(&text[self.at..], b'\n') {
-            Some((line, _)) => {
-                self.at += line.len() + 1;
-                self.line += 1;
-                Next::Line(line)
-            }
-            None => {
-                if self.at < text.len() {
-                    Next::Unended
-                } else {
-                    Next::End
-                }
-            }
-        }
+        let missing = Fault::of_line(self.number);
+        self.next().unwrap_or(Err(missing))
     }
 
     // Takes a line that has to be these names.
     pub(crate) fn names(&mut self, names: &[u8]) -> Result<(), Fault>
         ensures { PastNames names.now self.old result self.new }
     {
-        let line = self.line;
-        match self.next() {
-            Next::Line(bytes) => {
-                if same_bytes(bytes, names) {
-                    Ok(())
-                } else {
-                    Err(Fault::of_line(line))
-                }
-            }
-            _ => Err(Fault::of_line(line)),
+        let line = self.line()?;
+        if line.bytes == names {
+            Ok(())
+        } else {
+            Err(line.fault())
         }
     }
 
@@ -62,28 +88,17 @@ impl<'a> Reader<'a> {
     pub(crate) fn values(&mut self) -> Result<Values, Fault>
         ensures { PastValues self.old result self.new }
     {
-        let line = self.line;
-        match self.next() {
-            Next::Line(bytes) => values_in(bytes).ok_or(Fault::of_line(line)),
-            _ => Err(Fault::of_line(line)),
-        }
+        let line = self.line()?;
+        values_in(line.bytes).ok_or(line.fault())
     }
 
     // Refuses the first line that is no call.
-    pub(crate) fn check_calls(&mut self) -> Result<(), Fault>
-        ensures { result ≡ unless (call_fault self.old.line (lines_left self.old)) (Ok tt) }
+    pub(crate) fn check_calls(self) -> Result<(), Fault>
+        ensures { result ≡ unless (call_fault self.entry.number (lines_left self.entry)) (Ok tt) }
     {
-        loop {
-            let line = self.line;
-            match self.next() {
-                Next::Line(bytes) => {
-                    if call_in(bytes).is_none() {
-                        return Err(Fault::of_line(line));
-                    }
-                }
-                Next::Unended => return Err(Fault::of_line(line)),
-                Next::End => return Ok(()),
-            }
+        for line in self {
+            line?.entry()?;
         }
+        Ok(())
     }
 }

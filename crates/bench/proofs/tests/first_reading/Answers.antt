@@ -1,4 +1,4 @@
-use Rattle.std.proofs.Common.{◌≡◌, ℕ, List, [], ◌∷◌, IfOk, Some, Ok, Err, Option, Result}
+use Rattle.std.proofs.Common.{◌≡◌, ℕ, List, [], ◌∷◌, IfOk, Some, Ok, Err, Option, Result, subst}
 use Rattle.sheet.specs.declared.refusal.Refusal.{Refusal}
 use Rattle.sheet.specs.declared.size.Size.{Size}
 use Rattle.sheet.specs.Images.{image_of}
@@ -14,7 +14,11 @@ use Rattle.bench.proofs.tests.first_reading.Goals as goal
 read_true : (size : Size) (picture : List ℕ) (m : Model) (s : Scene) (row column : ℕ) (result : Result (Option (ℕ × ℕ)) Refusal) →
     Answers (refusal_of s (reads row column)) (s ≡ s) (GivenTrue size picture (Some m) s (reads row column) s) (answering Reading result) →
     IfOk result (λ reading. ReadingTrue m size.height size.width (image_of size.width picture) row column reading)
-read_true size picture m s row column (Ok reading) a = a.1
+read_true size picture m s row column (Ok reading) a =
+    let given = a.1 in
+    let answers : Reading reading ≡ Reading given.0 = given.1.0 in
+    let same : given.0 ≡ reading = cc in
+    subst (ReadingTrue m size.height size.width (image_of size.width picture) row column) same given.1.1
 read_true size picture m s row column (Err refusal) a = tt
 
 -- the run of this bench: opened, settled and read

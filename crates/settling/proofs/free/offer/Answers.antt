@@ -9,12 +9,6 @@ use Rattle.settling.specs.Within.{Relaxed}
 use Rattle.settling.proofs.Offers.{relaxed_one}
 use Rattle.settling.proofs.free.offer.Goals as goal
 
-pub bounds-keys-target : goal.bounds-keys-target
-bounds-keys-target g c = omega (arith, mul-add-lt c.args.row c.args.size.width c.args.column c.args.size.height c.requires.on.0 c.requires.on.1, c.requires.fits)
-
-pub bounds-keys-target-then-key-keys : goal.bounds-keys-target-then-key-keys
-bounds-keys-target-then-key-keys g c = omega (arith, mul-add-lt c.args.row c.args.size.width c.args.column c.args.size.height c.requires.on.0 c.requires.on.1, c.requires.fits)
-
 pub returns-then-key-keys : goal.returns-then-key-keys
 returns-then-key-keys g c =
     let w : ℕ = c.args.size.width in

@@ -9,15 +9,8 @@ use Rattle.transform.specs.Free.{Stable, Below}
 use Rattle.sheet.proofs.Answered.{accepted, check_passed}
 use Rattle.settling.specs.Within.{BetweenTakes}
 use Rattle.settling.specs.Orders.{CountsTakes}
-use Rattle.settling.proofs.Begun.{idle_empty, empty_idle, begun, airless_empty, ended_settled, ended_counts}
+use Rattle.settling.proofs.Begun.{empty_idle, begun, airless_empty, ended_settled, ended_counts}
 use Rattle.settling.proofs.free.run_front.Goals as goal
-
-pub put_air-requires : goal.put_air-requires
-put_air-requires g c = record {
-  picture = c.requires.picture;
-  room = omega (arith, c.requires.room, ap length c.start-2.ensures.waits, length-replicate (length (g.F.Front.waits c.args.front.now)) false);
-  empty = idle_empty _ _ c.start-2.ensures.waits;
-}
 
 pub spread_all-requires : goal.spread_all-requires
 spread_all-requires g c =
@@ -37,8 +30,8 @@ returns g c =
     let started = (accepted _ _ _ _ (check_passed _ _ _ (le-ltb _ _ c.requires.picture) ∙ check_passed _ _ _ (le-ltb _ _ c.requires.keys)) c.start.ensures).1 in
     let air = c.put_air.ensures in
     let ended = c.spread_all.ensures in
-    let es = c.straight-straight.ensures in
-    let ed = c.diagonal-diagonal.ensures in
+    let es = c.weights-weights.ensures.straight in
+    let ed = c.weights-weights.ensures.diagonal in
     let ks = c.start.new.keys in
     let ks' = c.spread_all.new.keys in
     let ws' = g.F.Front.waits c.spread_all.new.front in

@@ -1,28 +1,8 @@
-use Rattle.std.proofs.Common.{◌≡◌, ℕ, ◌-◌, ◌*◌, ◌≤◌, false, length, sym, refl, ap, ◌∙◌, le_trans, arith, length-set}
+use Rattle.std.proofs.Common.{◌≡◌, ℕ, ◌-◌, ◌*◌, ◌≤◌, false, length, sym, ap, ◌∙◌, le_trans, arith, length-set}
 use Rattle.std.proofs.lemmas.Bool.{true≢false}
 use Rattle.sheet.specs.Images.{image_of}
-use Rattle.settling.proofs.Turns.{taken_inside, turn_less, turn_between, spread_above}
+use Rattle.settling.proofs.Turns.{turn_between, spread_above}
 use Rattle.settling.proofs.free.spread_all.Goals as goal
-
-pub row_of-row-requires : goal.row_of-row-requires
-row_of-row-requires g c = record { inverse = refl; on = taken_inside _ _ _ _ _ _ _ _ _ c.loop-place.invariant.0 c.in-Some.ensures.taken }
-
-pub overflow_sub-column : goal.overflow_sub-column
-overflow_sub-column g c = c.row_of-row.ensures.starts
-
-pub spread_from-requires : goal.spread_from-requires
-spread_from-requires g c =
-    let size = c.args.size in
-    let before = c.loop-place.invariant.0 in
-    let takes = c.in-Some.ensures.taken in
-    record {
-      fits = omega (arith, c.requires.fits);
-      room = omega (arith, before.room, ap length takes.waits_no_more, length-set (g.F.Front.waits c.loop-place.front) c.in-Some.place false);
-      on = (c.row_of-row.ensures.row, c.row_of-row.ensures.column);
-    }
-
-pub loop-place-smaller : goal.loop-place-smaller
-loop-place-smaller g c = turn_less _ _ _ _ _ _ _ _ _ _ _ c.loop-place.invariant.0 c.in-Some.ensures.taken c.spread_from.ensures.relaxed
 
 pub loop-place-preserved : goal.loop-place-preserved
 loop-place-preserved g c =

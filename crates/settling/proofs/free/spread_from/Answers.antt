@@ -1,5 +1,4 @@
 use Rattle.std.proofs.Common.{◌≡◌, ℕ, ◌<◌, ◌≤◌, sym, ap, ◌∙◌, ⊎_elim, arith}
-use Rattle.std.proofs.lemmas.Nat.{mul-add-lt}
 use Rattle.std.proofs.lemmas.Bool.{cases_lt}
 use Rattle.sheet.specs.Pixels.{apart}
 use Rattle.sheet.specs.Images.{Image, image_of}
@@ -10,16 +9,13 @@ use Rattle.settling.proofs.Neighbours.{middle_of, side_of, keys_own, keys_beside
 use Rattle.settling.proofs.free.spread_from.Goals as goal
 use Rattle.settling.proofs.free.spread_from.Goals.{then-at-row, else-at-row}
 
-pub bounds-keys-row : goal.bounds-keys-row
-bounds-keys-row g c = omega (arith, mul-add-lt c.args.row c.args.size.width c.args.column c.args.size.height c.requires.on.0 c.requires.on.1, c.requires.fits)
-
 pub loop-at-preserved : goal.loop-at-preserved
 loop-at-preserved g c =
     let w : ℕ = c.args.size.width in
     let row : ℕ = c.args.row in
     let column : ℕ = c.args.column in
-    let s : ℕ = c.args.straight in
-    let d : ℕ = c.args.diagonal in
+    let s : ℕ = c.args.weights.straight in
+    let d : ℕ = c.args.weights.diagonal in
     let at : ℕ = c.loop-at.at in
     let f : Image = image_of w c.args.keys.now in
     let f' : Image = image_of w c.spread_row.new.keys in

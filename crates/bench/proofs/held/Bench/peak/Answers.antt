@@ -1,16 +1,10 @@
-use Rattle.std.proofs.Common.{Err, rules}
-use Rattle.sheet.specs.declared.refusal.Refusal.TheVariants.{WrongState}
-use Rattle.bench.proofs.ByMethod.{peak_goes_on}
+use Rattle.std.proofs.Common.{rules}
+use Rattle.bench.specs.Calls.{peaks}
+use Rattle.bench.proofs.RunLaw.{goes_on}
 use Rattle.bench.proofs.held.Bench.peak.Goals as goal
 
-pub returns-in-Open : goal.returns-in-Open
-returns-in-Open c = record {
-  answers = search rules;
-  runs_on = peak_goes_on c.args.self.now c.args.keys.now (Err WrongState) (search rules);
-}
+pub returns-in_err-check_state-clause-runs_on : goal.returns-in_err-check_state-clause-runs_on
+returns-in_err-check_state-clause-runs_on c = λ picture spare waits tally. goes_on _ peaks _ _ tt (search rules)
 
-pub returns-in-Settled : goal.returns-in-Settled
-returns-in-Settled c = record {
-  answers = search rules;
-  runs_on = peak_goes_on c.args.self.now c.args.keys.now c.peak.result (search rules);
-}
+pub returns-clause-runs_on : goal.returns-clause-runs_on
+returns-clause-runs_on c = λ picture spare waits tally. goes_on _ peaks _ _ tt (search rules)

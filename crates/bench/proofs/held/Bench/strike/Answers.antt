@@ -1,16 +1,10 @@
-use Rattle.std.proofs.Common.{Err, rules}
-use Rattle.sheet.specs.declared.refusal.Refusal.TheVariants.{WrongState}
-use Rattle.bench.proofs.ByMethod.{strike_goes_on}
+use Rattle.std.proofs.Common.{rules}
+use Rattle.bench.specs.Calls.{strikes}
+use Rattle.bench.proofs.RunLaw.{goes_on}
 use Rattle.bench.proofs.held.Bench.strike.Goals as goal
 
-pub returns-in-Open : goal.returns-in-Open
-returns-in-Open c = record {
-  answers = search rules;
-  runs_on = strike_goes_on c.args.self.now c.args.picture.now c.mark.new.picture c.args.row c.args.column c.mark.result (search rules);
-}
+pub returns-in_err-check_state-clause-runs_on : goal.returns-in_err-check_state-clause-runs_on
+returns-in_err-check_state-clause-runs_on c = λ keys spare waits tally. goes_on _ (strikes c.args.row c.args.column) _ _ tt (search rules)
 
-pub returns-in-Settled : goal.returns-in-Settled
-returns-in-Settled c = record {
-  answers = search rules;
-  runs_on = strike_goes_on c.args.self.now c.args.picture.now c.args.picture.now c.args.row c.args.column (Err WrongState) (search rules);
-}
+pub returns-clause-runs_on : goal.returns-clause-runs_on
+returns-clause-runs_on c = λ keys spare waits tally. goes_on _ (strikes c.args.row c.args.column) _ _ tt (search rules)

@@ -1,43 +1,30 @@
-use Rattle.std.proofs.Common.{◌<◌, ◌≤◌, false, map, take, refl, ap, ◌∙◌, ⊎_elim, arith}
-use Rattle.std.proofs.lemmas.List.{map-set, get_or_past, drop-set-lt}
-use Rattle.std.proofs.lemmas.Bool.{cases_lt}
-use Rattle.front.specs.Memory.{is_set, marked}
-use Rattle.front.proofs.Marked.{get_or_marked_in, is_set_yes, is_set_no, length_marked, take_set_in}
+use Rattle.std.proofs.Common.{◌<◌, sym, ◌∙◌, arith, length-set}
+use Rattle.front.proofs.Marked.{get_or_marked_in, length_marked, marked_set, clear_up_to}
 use Rattle.front.proofs.mark_front.methods.MarkFrontFront.take.Goals as goal
 
-pub returns-then-at-self : goal.returns-then-at-self
-returns-then-at-self c =
+pub invariant_of-self : goal.invariant_of-self
+invariant_of-self c =
     let s = c.args.self.now in
     let ms = s.marks.now in
     let n = s.size in
+    let p = c.in_ok-place.place in
+    let is = c.in_ok-place.ensures in
+    let l : p < n = omega (arith, is.within, length_marked ms n s.fits) in
     record {
-      taken = (
-        (λ k. ⊎_elim (λ (l : k < n). get_or_marked_in ms n k l ∙ is_set_no _ (c.lowest-at.ensures.below k (omega arith)))
-            (λ (l : n ≤ k). get_or_past (marked n ms) k false (rw (length_marked ms n s.fits) l)) (cases_lt k n)),
-        refl,
-      );
-      lowest = tt;
-      size = refl;
-      lender = refl;
-      rest = refl;
+      bounded = s.bounded;
+      fits = simp length-set s.fits;
+      within = omega arith;
+      below = clear_up_to ms p (omega (arith, s.fits)) (λ k b. sym (get_or_marked_in ms n k (omega arith)) ∙ is.none_lower k b);
     }
 
-pub returns : goal.returns
-returns c =
+pub returns-clause-taken : goal.returns-clause-taken
+returns-clause-taken c =
     let s = c.args.self.now in
-    let ms = s.marks.now in
-    let n = s.size in
-    let at = c.lowest-at.result in
-    let l = c.if-at-self.false in
+    let p = c.in_ok-place.place in
+    let is = c.in_ok-place.ensures in
     record {
-      taken = record {
-        within = rw (length_marked ms n s.fits) l;
-        waited = get_or_marked_in ms n at l ∙ is_set_yes _ (c.lowest-at.ensures.found l);
-        waits_no_more = ap (map is_set) (take_set_in n ms at 0) ∙ map-set is_set (take n ms) at 0;
-        raised_tally = c.saturating_add-tally.ensures;
-      };
-      lowest = λ k m. get_or_marked_in ms n k (omega arith) ∙ is_set_no _ (c.lowest-at.ensures.below k m);
-      size = refl;
-      lender = refl;
-      rest = drop-set-lt n ms at 0 l;
+      within = is.within;
+      waited = is.waits;
+      waits_no_more = marked_set s.size s.marks.now p 0;
+      raised_tally = c.saturating_add-self.ensures;
     }

@@ -1,22 +1,15 @@
-use Rattle.std.proofs.Common.{◌≡◌, suc, length, refl, ap, ◌∙◌, arith}
-use Rattle.front.specs.Fronts.{queue_waits, queued}
+use Rattle.std.proofs.Common.{◌≡◌, ℕ, false, Some, None, Option, MatchOption, sym, ap, ◌∙◌}
+use Rattle.std.specs.Option.{is_some}
+use Rattle.std.proofs.lemmas.Bool.{true≢false}
+use Rattle.front.specs.Fronts.{queue_waits}
 use Rattle.front.proofs.Marked.{all_false}
 use Rattle.front.proofs.queue_front.methods.QueueFrontFront.start.Goals as goal
 
-pub returns : goal.returns
-returns c =
-    let t = c.in_default.ensures in
-    let i = c.loop-p.invariant in
-    record {
-      waits = ap queue_waits t.taken.1 ∙ all_false (queue_waits c.loop-p.self) _ i.0 t.taken.0;
-      tally = refl;
-      order = ap queued t.taken.1 ∙ t.order;
-      size = t.size ∙ i.1;
-      ring_lender = t.ring_lender ∙ i.2;
-      ring_rest = t.ring_rest ∙ i.3;
-      flags_lender = t.flags_lender ∙ i.4;
-      flags_rest = t.flags_rest ∙ i.5;
-    }
+none_taken : (A : Type 0) (B : ℕ → Type 0) (taken : Option ℕ) → is_some taken ≡ false → MatchOption taken A B → A
+none_taken A B None e h = h
+none_taken A B (Some place) e h = absurd (true≢false e)
 
-pub loop-p-smaller : goal.loop-p-smaller
-loop-p-smaller c = let e : length (queued c.loop-p.self) ≡ suc (length (queued c.take.new.self)) = ap length c.in-Some.ensures.order in omega arith
+pub returns-clause-waits : goal.returns-clause-waits
+returns-clause-waits c =
+    let t = none_taken _ _ c.take.result (sym c.is_some.ensures ∙ c.loop-test.false) c.take.ensures.taken in
+    ap queue_waits t.1 ∙ all_false (queue_waits c.loop.self) _ c.loop.invariant.0 t.0

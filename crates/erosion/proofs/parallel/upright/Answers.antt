@@ -1,8 +1,0 @@
-use Rattle.std.proofs.Common.{arith}
-use Rattle.std.proofs.lemmas.Bool.Decides.{nat_tests}
-use Rattle.erosion.specs.Window.{upright_of}
-use Rattle.erosion.proofs.parallel.upright.Goals as goal
-
-pub returns : goal.returns
-unfolding upright_of
-returns c = grind (arith, nat_tests)
