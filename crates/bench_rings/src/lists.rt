@@ -19,7 +19,8 @@ const MOST_CALLS: u64 = 40;
 // Sides of the sheets go from 1 to this; rows and columns of calls from 0 to this, so that some lie off the sheet.
 const SIDE: u64 = 6;
 
-// The figures of an answer: a settling's count stands for the distance, and where a call finds nothing to tell all are 0.
+// The figures of an answer: a settling's count stands for the distance, and where a call finds nothing to tell all are 0. A type of this
+// program's own, since what is expected shares nothing with what answers.
 #[derive(Clone, Copy)]
 struct Figures {
     distance: u64,
@@ -245,6 +246,7 @@ fn compare_one(heap: Global, random: &mut Random) -> anyhow::Result<u64> {
 // Compares the answers of many lists.
 pub(crate) fn compare(rt: &HostRuntime) -> anyhow::Result<()> {
     let mut random = Random::new();
+    // counted here, since a list may end in an error
     let mut calls = 0u64;
     for _ in 0..LISTS {
         calls = calls.saturating_add(compare_one(rt.alloc(), &mut random)?);

@@ -99,8 +99,7 @@ fn measure_ring(rt: &HostRuntime) -> anyhow::Result<()> {
         // once more, since the last way may have been refused
         settle_anew(&mut case, formula, Way::Parallel);
         if let Some((distance, place)) = case.peak()? {
-            let row = place / width as u64;
-            let column = place % width as u64;
+            let (row, column) = size.pixel(place as usize)?;
             println!(rt; "  peak: distance {distance} at row {row}, column {column}")?;
         }
         println!(rt;
@@ -126,6 +125,7 @@ fn measure_corner(rt: &HostRuntime) -> anyhow::Result<()> {
 // Measures small pictures of every shape.
 fn measure_small(rt: &HostRuntime) -> anyhow::Result<()> {
     let mut random = Random::new();
+    // counted here, since what is counted may end in an error, and prints
     let mut pictures = 0u64;
     let mut pixels = 0u64;
     for height in 1..=SMALL {

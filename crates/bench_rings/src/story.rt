@@ -20,9 +20,7 @@ const CRACK: [(usize, usize); 6] = [(36, 20), (36, 21), (35, 22), (35, 23), (34,
 fn print_found(rt: &HostRuntime, case: &Case, found: Option<(u64, u64)>) -> anyhow::Result<()> {
     match found {
         Some((distance, place)) => {
-            let width = case.picture().size.width as u64;
-            let row = place / width;
-            let column = place % width;
+            let (row, column) = case.picture().size.pixel(place as usize)?;
             println!(rt; "distance {distance}, row {row}, column {column}")?;
         }
         None => println!(rt; "nothing")?,
@@ -51,15 +49,19 @@ fn print_refused(rt: &HostRuntime, refusal: Refusal) -> anyhow::Result<()> {
     Ok(())
 }
 
-fn strike(rt: &HostRuntime, case: &mut Case, row: usize, column: usize) -> anyhow::Result<()> {
-    print!(rt; "  strike row {row}, column {column}: ")?;
-    let answer = case.strike(row, column).map(|()| Answer::Done);
-    print_answer(rt, case, answer)
-}
-
-fn restore(rt: &HostRuntime, case: &mut Case, row: usize, column: usize) -> anyhow::Result<()> {
-    print!(rt; "  restore row {row}, column {column}: ")?;
-    let answer = case.restore(row, column).map(|()| Answer::Done);
+// Strikes a pixel, or restores it: makes the call of that name.
+fn mark<F: FnOnce(&mut Case, usize, usize) -> Result<(), Refusal>>(
+    rt: &HostRuntime,
+    case: &mut Case,
+    name: &str,
+    call: F,
+    row: usize,
+    column: usize,
+) -> anyhow::Result<()>
+    requires { F.IsAlwaysCallable call }
+{
+    print!(rt; "  {name} row {row}, column {column}: ")?;
+    let answer = call(case, row, column).map(|()| Answer::Done);
     print_answer(rt, case, answer)
 }
 
@@ -86,7 +88,7 @@ fn read_wall(rt: &HostRuntime, case: &Case) -> anyhow::Result<()> {
 fn strike_and_read(rt: &HostRuntime, case: &mut Case) -> anyhow::Result<()> {
     read(rt, case, READ_ROW, 24)?;
     for (row, column) in CRACK {
-        strike(rt, case, row, column)?;
+        mark(rt, case, "strike", Case::strike, row, column)?;
     }
     print!(rt; "  settle by chessboard, directional order: ")?;
     settle(rt, case, Formula::Chessboard, Way::Directional)?;
@@ -94,7 +96,7 @@ fn strike_and_read(rt: &HostRuntime, case: &mut Case) -> anyhow::Result<()> {
     settle(rt, case, Formula::SquaredEuclidean, Way::Directional)?;
     read_wall(rt, case)?;
     read(rt, case, case.picture().size.height, 0)?;
-    strike(rt, case, READ_ROW, 24)
+    mark(rt, case, "strike", Case::strike, READ_ROW, 24)
 }
 
 // The second half: the bench is reopened, the crack restored, and the wall read by chamfer distance.
@@ -103,7 +105,7 @@ fn restore_and_read(rt: &HostRuntime, case: &mut Case) -> anyhow::Result<()> {
     let answer = case.reopen().map(|()| Answer::Done);
     print_answer(rt, case, answer)?;
     for (row, column) in CRACK {
-        restore(rt, case, row, column)?;
+        mark(rt, case, "restore", Case::restore, row, column)?;
     }
     print!(rt; "  settle by chamfer, free order with the mark front: ")?;
     settle(rt, case, Formula::Chamfer, Way::FreeByMarks)?;

@@ -18,7 +18,7 @@ pub fn check_all(size: Size, picture: &[u8], keys: &[u64], spare: &[u64]) -> Res
     size.check_memory(spare.len())
 }
 
-// The place of a pixel.
+// The place of a pixel that is known to be on the sheet, which `Size::place` would test.
 pub(crate) fn place(size: Size, row: usize, column: usize) -> usize
     requires { On size row column }
     ensures is { result ≡ place_of size.width row column }

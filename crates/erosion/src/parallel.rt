@@ -12,6 +12,7 @@ use crate::memory::check_all;
 use crate::view::View;
 use metric::Metric;
 use metric::weights::Weights;
+use sheet::direction::Direction;
 use sheet::key;
 use sheet::refusal::Refusal;
 use sheet::size::Size;
@@ -22,29 +23,8 @@ impl View<'_> {
         requires { On self.size row column }
         ensures { result ≡ upright_of self.entry.size.height (shown self.entry) row column }
     {
-        let north = if row > 0 {
-            self.at(row - 1, column)
-        } else {
-            key::BLANK
-        };
-        let south = if row + 1 < self.size.height {
-            self.at(row + 1, column)
-        } else {
-            key::BLANK
-        };
-        north.min(south)
-    }
-
-    // The key east of a pixel.
-    fn east(self, row: usize, column: usize) -> u64
-        requires { On self.size row column }
-        ensures { result ≡ east_of self.entry.size.width (shown self.entry) row column }
-    {
-        if column + 1 < self.size.width {
-            self.at(row, column + 1)
-        } else {
-            key::BLANK
-        }
+        self.neighbour(Direction::North, row, column)
+            .min(self.neighbour(Direction::South, row, column))
     }
 
     // The lesser of the keys north and south of the pixel to the east.
@@ -85,7 +65,7 @@ impl Grid<'_> {
         let mut own = from.at(row, 0);
         let mut pair = from.upright(row, 0);
         for column in 0..from.size.width {
-            let east = from.east(row, column);
+            let east = from.neighbour(Direction::East, row, column);
             let east_pair = from.east_upright(row, column);
             let least = lowest(
                 own,

@@ -17,7 +17,7 @@ use sheet::size::Size;
 // The most levels that a metric has.
 const LEVELS: usize = 1024;
 
-// The straight weights of the first levels, each fetched once.
+// The straight weights of the first levels, each fetched once, in an array, since nothing here asks for memory.
 fn straights<M: Metric>(metric: &M, count: usize) -> [u32; LEVELS]
     requires { count ≤ 1024 }
     ensures length { length result ≡ 1024 }
@@ -42,6 +42,7 @@ impl Grid<'_> {
         ensures stays { Stays self.old self.new }
         ensures few { result ≤ self.old.size.width }
     {
+        // no `position`, nor `max` below: a proof knows nothing of a grid after a closure that changes it
         for (k, weight) in weights.iter().enumerate() {
             if !self.sweep_row(direction, row, *weight) {
                 return k as u64 + 1;

@@ -17,6 +17,7 @@ impl Grid<'_> {
         ensures image { Same self.old.size.height self.old.size.width (held self.new) (starting self.old.size.width (image_of self.old.size.width picture.now)) }
         ensures stays { Stays self.old self.new }
     {
+        // keys are written by index: after `iter_mut` a proof knows no element
         for (place, byte) in picture[..self.size.pixels()].iter().enumerate() {
             self.keys[place] = if *byte == 0 { place as u64 } else { key::BLANK };
         }

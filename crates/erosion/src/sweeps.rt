@@ -1,7 +1,5 @@
 // Directional rounds in memory that is known to hold the sheet.
 ghost use Rattle.std.specs.Prelude.{◌≡◌, ℕ, ◌<◌, true, false, ◌≢◌};
-ghost use Rattle.transform.specs.Directional.{neighbour_key};
-ghost use Rattle.erosion.specs.Views.{shown};
 ghost use Rattle.erosion.specs.Memory.{On};
 ghost use Rattle.erosion.specs.Grids.{held, sweep_in, Stays};
 ghost use Rattle.erosion.specs.Rounds.{Swept};
@@ -10,26 +8,9 @@ ghost use Rattle.erosion.specs.Walks.{sense_of};
 use crate::grid::Grid;
 use crate::memory::turned;
 use crate::raster::Sense;
-use crate::view::View;
 use sheet::direction::Direction;
 use sheet::key;
 use sheet::size::Size;
-
-impl View<'_> {
-    // The key of the neighbour in a direction.
-    fn neighbour(self, direction: Direction, row: usize, column: usize) -> u64
-        requires { On self.size row column }
-        ensures { result ≡ neighbour_key direction self.entry.size.height self.entry.size.width (shown self.entry) row column }
-    {
-        match direction {
-            Direction::North if row > 0 => self.at(row - 1, column),
-            Direction::South if row + 1 < self.size.height => self.at(row + 1, column),
-            Direction::West if column > 0 => self.at(row, column - 1),
-            Direction::East if column + 1 < self.size.width => self.at(row, column + 1),
-            _ => key::BLANK,
-        }
-    }
-}
 
 // The sense in which keys are taken from a direction.
 fn sense_of(direction: Direction) -> Sense

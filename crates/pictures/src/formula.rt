@@ -3,7 +3,7 @@ ghost use Rattle.pictures.specs.Distances.{name_of, distance_of};
 
 use std::fmt;
 
-// The four metrics by their formulas.
+// The four metrics by their formulas: an enum of its own, since the search shares nothing with what it tests.
 #[derive(Clone, Copy, PartialEq, Eq, Debug)]
 pub enum Formula {
     CityBlock,

@@ -37,7 +37,8 @@ fn letter(byte: u8) -> char
     if byte == AIR { '.' } else { '#' }
 }
 
-// Of the nearest so far and another, each a distance and a place, the nearer; the former where they are equal.
+// Of the nearest so far and another, each a distance and a place, the nearer; the former where they are equal. Beside `farther`, since
+// one function with the comparison as a closure would be no shorter than the two.
 fn nearer(best: Reading, next: (u64, u64)) -> Reading
     ensures { result ≡ nearer best next }
 {
@@ -75,6 +76,7 @@ impl Picture {
             height: HEIGHT,
         };
         let mut bytes = Vec::new(heap);
+        // no `collect`: a closure would have to take any number, and `in_ring` takes a pixel of the ring
         for place in 0..WIDTH * HEIGHT {
             bytes.push(byte_of(in_ring(place / WIDTH, place % WIDTH)))?;
         }

@@ -48,6 +48,7 @@ impl Random {
             × (self.new.state ≡ states (size.width * size.height) self.old.state)) }
     {
         let mut bytes = Vec::new(heap);
+        // no `collect`: a proof knows nothing of numbers that a closure draws
         for _ in 0..size.pixels() {
             bytes.push(byte_of(self.next().checked_rem(one_in) != Some(0)))?;
         }

@@ -22,6 +22,7 @@ impl<'a> Calls<'a> {
         ensures { left result ≡ entries_of text.now }
     {
         let mut rest = Lines::of(text);
+        // a loop: `nth` would read the last of them for a value that nobody asks for
         for _line in 0..HEAD {
             let _ = rest.next();
         }

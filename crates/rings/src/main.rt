@@ -69,8 +69,7 @@ fn measure_ring(rt: &HostRuntime) -> anyhow::Result<()> {
         println!(rt; "{formula}: {width} x {height}, {air} air and {carbon} carbon pixels")?;
         print_counts(rt, counts.as_slice())?;
         if let Some((distance, place)) = peak(case.readings(rt.alloc())?.as_slice()) {
-            let row = place / width as u64;
-            let column = place % width as u64;
+            let (row, column) = size.pixel(place as usize)?;
             println!(rt; "  deepest pixel: distance {distance} at row {row}, column {column}")?;
         }
         println!(rt;
@@ -96,6 +95,7 @@ fn measure_corner(rt: &HostRuntime) -> anyhow::Result<()> {
 // Measures small pictures of every shape.
 fn measure_small(rt: &HostRuntime) -> anyhow::Result<()> {
     let mut random = Random::new();
+    // counted here, since what is counted may end in an error, and prints
     let mut pictures = 0u64;
     let mut pixels = 0u64;
     for height in 1..=SMALL {

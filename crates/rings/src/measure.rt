@@ -40,6 +40,7 @@ impl Case {
         let picture = bytes.as_slice();
         let keys = self.keys.as_mut_slice();
         let spare = self.spare.as_mut_slice();
+        // a match, since the order is a value of the table above
         match order {
             Order::Parallel => parallel::settle(size, metric, picture, keys, spare),
             Order::Directional => directional::settle(size, metric, picture, keys, spare),

@@ -51,6 +51,7 @@ fn figures(size: Size, given: Given) -> Option<Figures>
         }),
         Given::Reading(found) | Given::Highest(found) => found.map(|(distance, place)| {
             let place = place as usize;
+            // no `Size::pixel`, which refuses a place off the sheet
             Figures {
                 distance,
                 row: place / size.width,
@@ -60,7 +61,7 @@ fn figures(size: Size, given: Given) -> Option<Figures>
     }
 }
 
-// What a call of a list asks of a bench.
+// What a call of a list asks of a bench. No `From`: both types are of other crates, and the metric is a third thing.
 fn asked<M: Metric>(metric: &M, call: Call) -> bench::Call<'_, M>
     ensures { request_of M.model result ≡ request_in (M.model metric.now) call }
 {

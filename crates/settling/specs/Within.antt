@@ -5,6 +5,7 @@ use Rattle.sheet.specs.Pixels.{place_of, apart, ring, weight_of}
 use Rattle.sheet.specs.Keys.{blank, stepped}
 use Rattle.sheet.specs.Images.{image_of}
 use Rattle.front.specs.Waiting.{many}
+use Rattle.erosion.specs.Memory.{past}
 use Rattle.settling.specs.Spreading.{HasRoom, LoweredWait}
 
 -- what one or more offers do: keys only fall, and lowered places are put
@@ -13,6 +14,12 @@ pub record Relaxed (keys keys' : List ℕ) (waits waits' : List Bool) : Type 0 w
   pub put : LoweredWait keys keys' waits waits'
   pub same_size : length waits' ≡ length waits
   pub less : sum keys' + many waits' ≤ sum keys + many waits
+
+-- and besides: what lies past the sheet stays, and none is counted
+pub record Offers (size : Size) (keys keys' : List ℕ) (waits waits' : List Bool) (tally tally' : ℕ) : Type 0 where
+  pub rest : past size keys' ≡ past size keys
+  pub relaxed : Relaxed keys keys' waits waits'
+  pub same_tally : tally' ≡ tally
 
 -- a row after its pixel in the given column was offered one key, and each beside it another
 abbrev pub offered : ℕ → ℕ → ℕ → (ℕ → ℕ) → ℕ → ℕ

@@ -1,5 +1,5 @@
-// The free order: places that wait offer their keys to their neighbours, in whatever sequence the front hands them out. Keys stand
-// beside their size and the front: the grid of `erosion` is its own, and made public would have to serve other callers than this.
+// The free order: places that wait offer their keys to their neighbours, in whatever sequence the front hands them out. Keys, size
+// and front stay side by side: a struct of the three would have to say in each function that it still holds the same two loans.
 ghost use Rattle.std.specs.Prelude.{◌≡◌, ℕ, ◌+◌, ◌-◌, ◌*◌, ◌/◌, ◌<◌, ◌≤◌, min, true, false, ◌||◌, length, ◌==◌, ◌≢◌, nat_le, slice_index, slice_index_or};
 ghost use Rattle.sheet.specs.Images.{Image, image_of};
 ghost use Rattle.sheet.specs.Refusals.{Answers, check, passed};
@@ -10,7 +10,7 @@ ghost use Rattle.transform.specs.Free.{spread, Stable, Below};
 ghost use Rattle.erosion.specs.Memory.{Fits, On, Shows, past, needs_memory};
 ghost use Rattle.erosion.specs.Rounds.{Settles};
 ghost use Rattle.settling.specs.Spreading.{HasRoom, Spread, too_small};
-ghost use Rattle.settling.specs.Within.{Relaxed, offered, BetweenTakes};
+ghost use Rattle.settling.specs.Within.{Offers, offered, BetweenTakes};
 ghost use Rattle.settling.specs.Orders.{settle_refusal, CountsTakes, LeavesFront};
 
 use erosion::memory::check_all;
@@ -32,10 +32,9 @@ fn offer<F: Front>(size: Size, keys: &mut [u64], front: &mut F, row: usize, colu
     requires on { On size row column }
     ensures pixel { image_of size.width keys.new row column ≡ min (image_of size.width keys.old row column) key }
     ensures others { (r c : ℕ) → c < size.width → (r ≡ row → c ≢ column) → image_of size.width keys.new r c ≡ image_of size.width keys.old r c }
-    ensures rest { past size keys.new ≡ past size keys.old }
-    ensures relaxed { Relaxed keys.old keys.new (F.waits front.old) (F.waits front.new) }
-    ensures tally { F.tally front.new ≡ F.tally front.old }
+    ensures offers { Offers size keys.old keys.new (F.waits front.old) (F.waits front.new) (F.tally front.old) (F.tally front.new) }
 {
+    // here and below no `Size::place`, which would test the pixel
     let target = row * size.width + column;
     if key < keys[target] {
         keys[target] = key;
@@ -59,9 +58,7 @@ fn spread_row<F: Front>(
     requires on { On size row column }
     ensures line { (c : ℕ) → c < size.width → image_of size.width keys.new row c ≡ offered middle side column (image_of size.width keys.old row) c }
     ensures others { (r c : ℕ) → c < size.width → (r ≢ row) → image_of size.width keys.new r c ≡ image_of size.width keys.old r c }
-    ensures rest { past size keys.new ≡ past size keys.old }
-    ensures relaxed { Relaxed keys.old keys.new (F.waits front.old) (F.waits front.new) }
-    ensures tally { F.tally front.new ≡ F.tally front.old }
+    ensures offers { Offers size keys.old keys.new (F.waits front.old) (F.waits front.new) (F.tally front.old) (F.tally front.new) }
 {
     for at in column.saturating_sub(1)..(column + 2).min(size.width) {
         let key = if at == column { middle } else { side };
@@ -83,9 +80,7 @@ fn spread_from<F: Front>(
     requires room { HasRoom size (F.waits front.old) }
     requires on { On size row column }
     ensures image { Shows size keys.new (spread weights.straight weights.diagonal (image_of size.width keys.old) row column) }
-    ensures rest { past size keys.new ≡ past size keys.old }
-    ensures relaxed { Relaxed keys.old keys.new (F.waits front.old) (F.waits front.new) }
-    ensures tally { F.tally front.new ≡ F.tally front.old }
+    ensures offers { Offers size keys.old keys.new (F.waits front.old) (F.waits front.new) (F.tally front.old) (F.tally front.new) }
 {
     let key = keys[row * size.width + column];
     let near = key::step(key, weights.straight);

@@ -47,7 +47,7 @@ pub fn mark(
     Ok(())
 }
 
-// The distance and the place of air of a pixel; nothing where its key is blank.
+// The distance and the place of air of a pixel; nothing where its key is blank. The two stay a pair, as the definitions have them.
 pub fn read(
     size: Size,
     row: usize,

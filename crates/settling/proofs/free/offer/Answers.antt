@@ -24,9 +24,11 @@ returns-then-key-keys g c =
       pixel = get_or-set_same ks q c.args.key 0 fits ∙ lesser _ _ c.if-key-keys.true;
       others = λ r d k n.
           get_or-set_other ks q (place_of w r d) c.args.key 0 (λ e. n (same_row _ _ _ _ _ k column e) (same_column _ _ _ _ _ k column e));
-      rest = drop-set-lt _ _ _ _ inside;
-      relaxed = subst (λ v. Relaxed ks (set ks q c.args.key) ws v) (sym put.waits_now) (relaxed_one ks ws q c.args.key fits room c.if-key-keys.true);
-      tally = put.same_tally;
+      offers = record {
+        rest = drop-set-lt _ _ _ _ inside;
+        relaxed = subst (λ v. Relaxed ks (set ks q c.args.key) ws v) (sym put.waits_now) (relaxed_one ks ws q c.args.key fits room c.if-key-keys.true);
+        same_tally = put.same_tally;
+      };
     }
   where
     lesser : (key old : ℕ) → key < old → key ≡ min old key

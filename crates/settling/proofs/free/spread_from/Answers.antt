@@ -41,9 +41,9 @@ loop-at-preserved g c =
           ∙ ap (λ n. spread s d f row column n e) (sym p))
           (cases_lt r at)),
       (λ r e on n. done.others r e on (λ p. n (omega arith) (omega arith)) ∙ inv.1 r e on (λ low high. n low (omega arith))),
-      done.rest ∙ inv.2,
-      relaxed_then _ _ _ _ _ _ inv.3 done.relaxed,
-      done.tally ∙ inv.4,
+      done.offers.rest ∙ inv.2,
+      relaxed_then _ _ _ _ _ _ inv.3 done.offers.relaxed,
+      done.offers.same_tally ∙ inv.4,
     )
 
 pub returns : goal.returns
@@ -55,7 +55,5 @@ returns g c =
           (λ (u : 1 < apart c.args.row r). inv.1 r e q (λ low high. omega arith) ∙ sym (spread_off _ _ _ _ _ r e u))
           (λ (u : apart c.args.row r ≤ 1). inv.0 r e (omega arith) (omega arith) q)
           (cases_lt 1 (apart c.args.row r));
-      rest = inv.2;
-      relaxed = inv.3;
-      tally = inv.4;
+      offers = record { rest = inv.2; relaxed = inv.3; same_tally = inv.4 };
     }

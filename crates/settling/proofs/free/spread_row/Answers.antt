@@ -29,7 +29,7 @@ loop-at-preserved g c =
           ap (f' row) e ∙ offer.pixel ∙ (λ k. min (inv.1 row at on (λ _ _ n. omega arith) k) (key k)) ∙ ap (λ n. min (f row n) (choice n)) (sym e))
           (cases_lt d at)),
       (λ r d k n. offer.others r d k (λ p q. n p (omega arith) (omega arith)) ∙ inv.1 r d k (λ p low high. n p low (omega arith))),
-      offer.rest ∙ inv.2,
-      relaxed_then _ _ _ _ _ _ inv.3 offer.relaxed,
-      offer.tally ∙ inv.4,
+      offer.offers.rest ∙ inv.2,
+      relaxed_then _ _ _ _ _ _ inv.3 offer.offers.relaxed,
+      offer.offers.same_tally ∙ inv.4,
     )

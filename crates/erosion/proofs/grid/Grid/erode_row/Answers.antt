@@ -36,6 +36,6 @@ loop-column-preserved c =
       ],
       (own ∙ sym (west_next f r i)),
       (pair ∙ sym (west_next u r i)),
-      c.east-east.ensures,
+      c.neighbour-east.ensures,
       c.east_upright-east_pair.ensures,
     )
