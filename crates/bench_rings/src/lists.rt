@@ -7,7 +7,6 @@ use pictures::picture::{AIR, CARBON, Picture};
 use pictures::random::Random;
 use pictures::readings::peak;
 use runlist::answer;
-use sheet::refusal::Refusal;
 use sheet::size::Size;
 use std::alloc::Global;
 
@@ -28,8 +27,16 @@ struct Figures {
     column: u64,
 }
 
+// Why a call must be refused, as the number that its line then says. Not the refusals of what answers, for the same reason.
+#[derive(Clone, Copy)]
+enum Due {
+    WrongState = 3,
+    OffSheet = 4,
+    NotAdmitted = 5,
+}
+
 // What a call must give: its figures, nothing for a reading or a peak on a sheet without air, or a refusal.
-type Expected = Result<Option<Figures>, Refusal>;
+type Expected = Result<Option<Figures>, Due>;
 
 // The figures of a count, and of a call that finds nothing to tell.
 fn counted(count: u64) -> Option<Figures> {
@@ -60,9 +67,9 @@ struct Sheet {
 
 impl Sheet {
     // Refuses a call that wants the sheet in the other state.
-    fn check(&self, wanted: State) -> Result<(), Refusal> {
+    fn check(&self, wanted: State) -> Result<(), Due> {
         if self.state != wanted {
-            return Err(Refusal::WrongState);
+            return Err(Due::WrongState);
         }
         Ok(())
     }
@@ -81,7 +88,7 @@ impl Sheet {
     fn mark(&mut self, row: usize, column: usize, byte: u8) -> Expected {
         self.check(State::Open)?;
         let picture = &mut self.picture;
-        let place = picture.size.place(row, column)?;
+        let place = picture.size.place(row, column).map_err(|_| Due::OffSheet)?;
         picture.bytes[place] = byte;
         Ok(counted(0))
     }
@@ -99,14 +106,15 @@ impl Sheet {
     // Takes the count of a settling, or nothing where the order does not admit the metric.
     fn settled(&mut self, count: Option<u64>) -> Expected {
         self.check(State::Open)?;
-        let count = count.ok_or(Refusal::NotAdmitted)?;
+        let count = count.ok_or(Due::NotAdmitted)?;
         self.state = State::Settled;
         Ok(counted(count))
     }
 
     fn read(&self, row: usize, column: usize) -> Expected {
         self.check(State::Settled)?;
-        let place = self.picture.size.place(row, column)?;
+        let size = self.picture.size;
+        let place = size.place(row, column).map_err(|_| Due::OffSheet)?;
         Ok(self.figures(self.picture.nearest(self.formula, place)))
     }
 
@@ -167,8 +175,8 @@ impl Made {
                 ),
             ) => { format!(in heap; "{line},0,{distance},{row},{column}\n")? }
             Ok(None) => format!(in heap; "{line},0,-,-,-\n")?,
-            Err(refusal) => {
-                let number = u32::from(refusal);
+            Err(due) => {
+                let number = due as u32;
                 format!(in heap; "{line},{number},0,0,0\n")?
             }
         };

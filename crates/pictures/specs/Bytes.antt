@@ -1,6 +1,6 @@
 -- The bytes of the pictures.
 use Rattle.std.specs.Prelude.{◌≡◌, ℕ, ◌+◌, ◌*◌, ◌/◌, ◌<◌, ◌==◌, nat_le, ◌&&◌, ◌||◌, not, cond, Bool, List, [], ◌∷◌, ◌++◌, zero, suc, map, length, slice_index, slice_range}
-use Rattle.sheet.specs.Pixels.{apart}
+use Rattle.pictures.specs.Distances.{apart}
 
 -- there are n bytes, and this is each
 abbrev pub HasBytes : List ℕ → ℕ → (ℕ → ℕ) → Type 0

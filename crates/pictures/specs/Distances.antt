@@ -1,8 +1,11 @@
 -- The four metrics by their formulas. x and y are the columns and rows of an offset.
 use Rattle.std.specs.Prelude.{ℕ, ◌+◌, ◌-◌, ◌*◌, ◌/◌, ◌%◌, min, max, List, codes}
-use Rattle.sheet.specs.Pixels.{apart}
 use Rattle.pictures.specs.declared.formula.Formula.{Formula}
 use Rattle.pictures.specs.declared.formula.Formula.TheVariants.{CityBlock, Chessboard, Chamfer, SquaredEuclidean}
+
+-- how far two rows, or two columns, lie apart
+abbrev pub apart : ℕ → ℕ → ℕ
+apart a b = (a - b) + (b - a)
 
 abbrev pub name_of : Formula → List ℕ
 name_of CityBlock = codes "city-block"

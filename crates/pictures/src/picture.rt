@@ -1,7 +1,6 @@
-ghost use Rattle.std.specs.Prelude.{◌≡◌, ◌+◌, ◌*◌, ◌/◌, ◌%◌, ◌<◌, ◌==◌, replicate, count_by, IfOk, string_bytes, vec_len};
+ghost use Rattle.std.specs.Prelude.{◌≡◌, ◌+◌, ◌*◌, ◌/◌, ◌%◌, ◌<◌, ◌==◌, None, map, fold, replicate, count_by, IfOk, string_bytes, vec_len};
 ghost use Rattle.pictures.specs.Bytes.{HasBytes, byte_of, letter, line_of, lines_of, corner_byte, ring_byte};
-ghost use Rattle.pictures.specs.Distances.{distance_between};
-ghost use Rattle.pictures.specs.Nearest.{nearer, nearest_of, readings_of};
+ghost use Rattle.pictures.specs.Nearest.{pixel_of, reach, nearer, air_of, nearest_of, readings_of};
 
 use crate::formula::Formula;
 use crate::readings::Reading;
@@ -46,6 +45,34 @@ fn nearer(best: Reading, next: (u64, u64)) -> Reading
         Some(found) if found.0 <= next.0 => best,
         _ => Some(next),
     }
+}
+
+// A pixel by row and column, with its place.
+#[derive(Clone, Copy)]
+struct Pixel {
+    row: usize,
+    column: usize,
+    place: u64,
+}
+
+impl Pixel {
+    // How far another pixel lies by a formula, with its place.
+    fn reach(self, formula: Formula, to: Pixel) -> (u64, u64)
+        ensures { result ≡ reach formula self to }
+    {
+        let columns = self.column.abs_diff(to.column);
+        let rows = self.row.abs_diff(to.row);
+        (formula.distance(columns, rows), to.place)
+    }
+}
+
+// The nearest of some pixels of air: its distance and place, those of the first where several are so near.
+fn nearest_among(formula: Formula, from: Pixel, air: &[Pixel]) -> Reading
+    ensures { result ≡ fold nearer None (map (reach formula from) air.now) }
+{
+    air.iter()
+        .map(|pixel| from.reach(formula, *pixel))
+        .fold(None, nearer)
 }
 
 impl Picture {
@@ -117,35 +144,49 @@ impl Picture {
         Ok(text)
     }
 
-    // How far two places lie apart by a formula.
-    fn distance(&self, formula: Formula, from: usize, to: usize) -> u64
-        ensures { result ≡ distance_between formula self.now.size.width from to }
+    // The pixel of a place, which need not be on the sheet.
+    fn pixel(&self, place: usize) -> Pixel
+        ensures { result ≡ pixel_of self.now.size.width place }
     {
-        let width = self.size.width;
-        formula.distance(
-            (from % width).abs_diff(to % width),
-            (from / width).abs_diff(to / width),
-        )
+        Pixel {
+            row: place / self.size.width,
+            column: place % self.size.width,
+            place: place as u64,
+        }
     }
 
     // The distance from a place to its nearest air, with the place of the first air that is so near; nothing where there is no air.
     pub fn nearest(&self, formula: Formula, place: usize) -> Reading
         ensures { result ≡ nearest_of formula self.now.size.width self.now.bytes.items place }
     {
+        let from = self.pixel(place);
         self.bytes
             .iter()
             .enumerate()
             .filter(|(_, byte)| **byte == AIR)
-            .map(|(air, _)| (self.distance(formula, place, air), air as u64))
+            .map(|(air, _)| from.reach(formula, self.pixel(air)))
             .fold(None, nearer)
     }
 
-    // What `nearest` finds at each place.
+    // The pixels of air, in raster order.
+    fn air(&self, heap: Global) -> Result<Vec<Pixel>, AllocError>
+        ensures { IfOk result (λ air. air.items ≡ air_of self.now.size.width self.now.bytes.items) }
+    {
+        self.bytes
+            .iter()
+            .enumerate()
+            .filter(|(_, byte)| **byte == AIR)
+            .map(|(place, _)| self.pixel(place))
+            .collect(heap)
+    }
+
+    // What `nearest` finds at each place. The air is listed once, so that a place costs no more than there is air.
     pub fn readings(&self, heap: Global, formula: Formula) -> Result<Vec<Reading>, AllocError>
         ensures { IfOk result (λ readings. readings.items ≡ readings_of formula self.now.size.width self.now.bytes.items (self.now.size.width * self.now.size.height)) }
     {
+        let air = self.air(heap)?;
         (0..self.size.pixels())
-            .map(|place| self.nearest(formula, place))
+            .map(|place| nearest_among(formula, self.pixel(place), air.as_slice()))
             .collect(heap)
     }
 }

@@ -12,7 +12,7 @@ use std::fmt;
 pub type Reading = Option<(u64, u64)>;
 
 // Of the farthest so far and another, each a distance and a place, the farther; the former where they are equal.
-fn farther(best: Reading, next: (u64, u64)) -> Reading
+pub fn farther(best: Reading, next: (u64, u64)) -> Reading
     ensures { result ≡ farther best next }
 {
     match best {

@@ -2,8 +2,8 @@
 #![tactic(auto)]
 
 ghost use Rattle.std.specs.Prelude.{◌≡◌, false, IfOk};
-ghost use Rattle.reader.specs.Lists.{list_of, bad_size};
-ghost use Rattle.reader.specs.Left.{says, said};
+ghost use Rattle.reader.specs.Lists.{list_of, entries_of, bad_size};
+ghost use Rattle.reader.specs.Left.{left, says, said};
 ghost use Rattle.reader.specs.Laws.{LinesRejoin, ListsReadTrue};
 
 use calls::Calls;
@@ -24,6 +24,7 @@ const LONGEST: usize = 16384;
 pub fn check(text: &[u8]) -> Result<RunList<'_>, Fault>
     ensures list { said result ≡ list_of text.now }
     ensures size { IfOk result (λ list. bad_size (says list).values ≡ false) }
+    ensures calls { IfOk result (λ list. left list.calls ≡ entries_of text.now) }
 {
     if text.len() > LONGEST {
         return Err(Fault {

@@ -9,7 +9,7 @@ use measure::{Case, ORDERS};
 use pictures::formula::{FORMULAS, Formula};
 use pictures::picture::Picture;
 use pictures::random::Random;
-use pictures::readings::{compare, peak};
+use pictures::readings::compare;
 use sheet::order::Order;
 use sheet::size::Size;
 use std::alloc::Global;
@@ -68,7 +68,7 @@ fn measure_ring(rt: &HostRuntime) -> anyhow::Result<()> {
         let counts = settle_by_all(rt.alloc(), &mut case, formula)?;
         println!(rt; "{formula}: {width} x {height}, {air} air and {carbon} carbon pixels")?;
         print_counts(rt, counts.as_slice())?;
-        if let Some((distance, place)) = peak(case.readings(rt.alloc())?.as_slice()) {
+        if let Some((distance, place)) = case.deepest() {
             let (row, column) = size.pixel(place as usize)?;
             println!(rt; "  deepest pixel: distance {distance} at row {row}, column {column}")?;
         }
@@ -84,7 +84,7 @@ fn measure_corner(rt: &HostRuntime) -> anyhow::Result<()> {
     let size = Size::new(1024, 1024)?;
     let mut case = Case::new(rt.alloc(), Picture::corner(rt.alloc(), size)?)?;
     let count = case.settle(Formula::SquaredEuclidean, Order::Directional)?;
-    if let Some((distance, place)) = peak(case.readings(rt.alloc())?.as_slice()) {
+    if let Some((distance, place)) = case.deepest() {
         println!(rt;
             "1024 x 1024 with air in one corner, squared Euclidean, directional: count {count}, distance {distance} at place {place}"
         )?;

@@ -7,7 +7,7 @@ use metric::city_block::CityBlock;
 use metric::squared_euclidean::SquaredEuclidean;
 use pictures::formula::Formula;
 use pictures::picture::Picture;
-use pictures::readings::Reading;
+use pictures::readings::{Reading, farther};
 use sheet::key;
 use sheet::order::Order;
 use sheet::refusal::Refusal;
@@ -64,5 +64,15 @@ impl Case {
     // What the keys say, place by place.
     pub(crate) fn readings(&self, heap: Global) -> Result<Vec<Reading>, AllocError> {
         self.keys.iter().map(|key| key::reading(*key)).collect(heap)
+    }
+
+    // The greatest distance, with the first place that has it; nothing where there is none. It goes by the keys, since their
+    // readings take three times as much memory.
+    pub(crate) fn deepest(&self) -> Option<(u64, u64)> {
+        self.keys
+            .iter()
+            .enumerate()
+            .filter_map(|(place, key)| key::reading(*key).map(|found| (found.0, place as u64)))
+            .fold(None, farther)
     }
 }
